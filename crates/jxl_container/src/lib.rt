@@ -1,0 +1,2 @@
+// The JPEG XL container, after the Rust's container.rs.
+pub mod consts;
