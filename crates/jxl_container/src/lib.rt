@@ -1,2 +1,224 @@
-// The JPEG XL container, after the Rust's container.rs.
+// The JPEG XL container, after the Rust's container.rs: the parser as a record that goes in by value and comes back.
+ghost use mathlib.Core.Path.{_≡_};
+ghost use Rattle.jxl_container.specs.Record.{at, fresh, impossible, isRefused, kindOf, less, noIndex, overIndex, toEnd, under};
+
+pub mod box_header;
 pub mod consts;
+pub mod parse;
+
+// Structure of the decoded bitstream.
+pub enum BitstreamKind {
+    // Not yet told.
+    Unknown,
+    // A direct codestream without box structure.
+    BareCodestream,
+    // A container with box structure.
+    Container,
+    // Not a valid JPEG XL image.
+    Invalid,
+}
+
+// How far a payload reaches: to the end of the file, or so many bytes more.
+pub enum Left {
+    ToEnd,
+    Bytes(u64),
+}
+
+// The `jxlc` and `jxlp` boxes so far: none, one `jxlc`, a row of `jxlp` with the index of the newest, a whole row.
+pub enum JxlpIndexState {
+    Initial,
+    SingleJxlc,
+    Jxlp(u32),
+    JxlpFinished,
+}
+
+// Why a parser refuses. The number of each in the paper is `number` of specs/Record.antt.
+pub enum Refusal {
+    InvalidBox,
+    ValidationFailed,
+}
+
+impl Left {
+    // Whether the payload has fewer than `n` bytes.
+    pub(crate) fn under(self, n: u64) -> bool
+        ensures { λ r. ⌜ r ≡ under n self ⌝ }
+    {
+        match self {
+            Left::ToEnd => false,
+            Left::Bytes(m) => m < n,
+        }
+    }
+
+    // The payload behind its first `n` bytes.
+    pub(crate) fn less(self, n: u64) -> Left
+        ensures { λ r. ⌜ r ≡ less self n ⌝ }
+    {
+        match self {
+            Left::ToEnd => Left::ToEnd,
+            Left::Bytes(m) => {
+                if m < n {
+                    Left::Bytes(0)
+                } else {
+                    Left::Bytes(m - n)
+                }
+            }
+        }
+    }
+
+    // Whether the payload runs to the end of the file.
+    pub(crate) fn to_end(self) -> bool
+        ensures { λ r. ⌜ r ≡ toEnd self ⌝ }
+    {
+        match self {
+            Left::ToEnd => true,
+            Left::Bytes(_) => false,
+        }
+    }
+}
+
+impl JxlpIndexState {
+    // Whether the current `jxlp` index is above 2^31 - 1, where none is awaited.
+    pub(crate) fn over_index(self) -> bool
+        ensures { λ r. ⌜ r ≡ overIndex self ⌝ }
+    {
+        match self {
+            JxlpIndexState::Jxlp(i) => 0x8000_0000 <= i,
+            JxlpIndexState::Initial => false,
+            JxlpIndexState::SingleJxlc => false,
+            JxlpIndexState::JxlpFinished => false,
+        }
+    }
+
+    // Whether no `jxlp` is open, or its awaited index is above 2^31.
+    pub(crate) fn no_index(self) -> bool
+        ensures { λ r. ⌜ r ≡ noIndex self ⌝ }
+    {
+        match self {
+            JxlpIndexState::Jxlp(i) => 0x8000_0000 < i,
+            JxlpIndexState::Initial => true,
+            JxlpIndexState::SingleJxlc => true,
+            JxlpIndexState::JxlpFinished => true,
+        }
+    }
+}
+
+// What the parser waits for, or is inside of.
+pub enum DetectState {
+    WaitingSignature,
+    WaitingBoxHeader,
+    // The 4 bytes of a `jxlp` index; the payload's size counts them.
+    WaitingJxlpIndex(Left),
+    // The 4 bytes of a `brob`'s inner type; the payload's size counts them.
+    WaitingInnerType(Left),
+    InAuxBox {
+        ty: u32,
+        left: Left,
+    },
+    InCodestream {
+        kind: BitstreamKind,
+        left: Left,
+        pending_no_more_aux_box: bool,
+    },
+    // A refusal stays, and the kind stays what it was.
+    Refused {
+        kind: BitstreamKind,
+        refusal: Refusal,
+    },
+}
+
+// The parser's whole state.
+pub struct ContainerParser {
+    pub state: DetectState,
+    pub jxlp: JxlpIndexState,
+}
+
+impl ContainerParser {
+    // A new parser.
+    pub fn new() -> Self
+        ensures { λ r. ⌜ r ≡ fresh ⌝ }
+    {
+        ContainerParser::at(DetectState::WaitingSignature, JxlpIndexState::Initial)
+    }
+
+    // The one place where a record is made.
+    pub(crate) fn at(state: DetectState, jxlp: JxlpIndexState) -> Self
+        ensures { λ r. ⌜ r ≡ at state jxlp ⌝ }
+    {
+        ContainerParser { state, jxlp }
+    }
+
+    // The kind of bitstream: unknown before KIND, then KIND's.
+    pub fn kind(self) -> BitstreamKind
+        ensures { λ r. ⌜ r ≡ kindOf self ⌝ }
+    {
+        let state = self.state;
+        match state {
+            DetectState::WaitingSignature => BitstreamKind::Unknown,
+            DetectState::WaitingBoxHeader => BitstreamKind::Container,
+            DetectState::WaitingJxlpIndex(_) => BitstreamKind::Container,
+            DetectState::WaitingInnerType(_) => BitstreamKind::Container,
+            DetectState::InAuxBox { ty: _, left: _ } => BitstreamKind::Container,
+            DetectState::InCodestream {
+                kind,
+                left: _,
+                pending_no_more_aux_box: _,
+            } => kind,
+            DetectState::Refused { kind, refusal: _ } => kind,
+        }
+    }
+
+    // Whether the parser has refused.
+    pub(crate) fn is_refused(self) -> bool
+        ensures { λ r. ⌜ r ≡ isRefused self ⌝ }
+    {
+        let state = self.state;
+        match state {
+            DetectState::Refused {
+                kind: _,
+                refusal: _,
+            } => true,
+            DetectState::WaitingSignature => false,
+            DetectState::WaitingBoxHeader => false,
+            DetectState::WaitingJxlpIndex(_) => false,
+            DetectState::WaitingInnerType(_) => false,
+            DetectState::InAuxBox { ty: _, left: _ } => false,
+            DetectState::InCodestream {
+                kind: _,
+                left: _,
+                pending_no_more_aux_box: _,
+            } => false,
+        }
+    }
+
+    // Whether no file leads to this record.
+    pub(crate) fn is_impossible(self) -> bool
+        ensures { λ r. ⌜ r ≡ impossible self ⌝ }
+    {
+        let state = self.state;
+        let jxlp = self.jxlp;
+        match state {
+            DetectState::WaitingJxlpIndex(left) => {
+                if jxlp.no_index() { true } else { left.under(4) }
+            }
+            DetectState::WaitingInnerType(left) => {
+                if jxlp.over_index() {
+                    true
+                } else {
+                    left.under(4)
+                }
+            }
+            DetectState::Refused {
+                kind: _,
+                refusal: _,
+            } => false,
+            DetectState::WaitingSignature => jxlp.over_index(),
+            DetectState::WaitingBoxHeader => jxlp.over_index(),
+            DetectState::InAuxBox { ty: _, left: _ } => jxlp.over_index(),
+            DetectState::InCodestream {
+                kind: _,
+                left: _,
+                pending_no_more_aux_box: _,
+            } => jxlp.over_index(),
+        }
+    }
+}
