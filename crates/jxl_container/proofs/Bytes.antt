@@ -37,3 +37,13 @@ starts-agree p s i h k e = rw (starts-next p s i h k, eq-eqb (getD p i 0) (getD 
 -- all of it found
 pub starts-over : (p s : List ℕ) (i : ℕ) → length p ≤ i → starts (drop i p) (drop i s) ≡ true
 starts-over p s i h = rw (drop-of-length-le p h)
+
+-- what starts with all of p is as long
+pub starts-length : (p s : List ℕ) → starts p s ≡ true → length p ≤ length s
+starts-length [] s e = omega arith
+starts-length (x ∷ p) [] e = absurd (let z : _≡_ {A = ℕ} 0 1 = cc in omega arith)
+starts-length (x ∷ p) (y ∷ s) e = go (eqb x y) e (starts-length p s)
+  where
+    go : (t : Bool) → and t (starts p s) ≡ true → (starts p s ≡ true → length p ≤ length s) → suc (length p) ≤ suc (length s)
+    go true e k = omega (arith, k e)
+    go false e k = absurd (let z : _≡_ {A = ℕ} 0 1 = cc in omega arith)

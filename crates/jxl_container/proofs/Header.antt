@@ -6,7 +6,7 @@ use Prim.Native.Nat.{ℕ, _-_, _<_, _≤_}
 use native.Mathlib.Omega.{arith}
 use lib.Dec.{ltb, eqb}
 use lib.ListN.{length}
-use borrow.Author.Tests.{lt-ltb, le-ltb, eq-eqb, ne-eqb, ltb-false}
+use borrow.Author.Tests.{lt-ltb, le-ltb, eq-eqb, ne-eqb, ltb-true, ltb-false}
 use Rattle.jxl_container.specs.Bytes.{if, be32, be64}
 use Rattle.jxl_container.specs.Header.{Header, short, bad, box, headerOf, extended}
 use Rattle.jxl_container.specs.declared.Left.{Left}
@@ -49,9 +49,9 @@ module _ (s : List ℕ) where
   header-box h n z l =
       rw (le-ltb (length s) 8 h, ne-eqb (be32 s 0) 1 n, ne-eqb (be32 s 0) 0 z, le-ltb (be32 s 0) 8 l)
 
--- a header that is read is 8 bytes or more, and all of them are there
+-- a header that wants more has fewer than 16 bytes; one that is read has 8 bytes or more, and all of them are there
 abbrev Sized : Header → ℕ → Type 0
-Sized short n = Unit {0}
+Sized short n = n < 16
 Sized (bad r) n = Unit {0}
 Sized (box t l k) n = (8 ≤ k) × (k ≤ n)
 
@@ -65,7 +65,7 @@ extended-sized s = there (ltb (length s) 16) refl
 
     there : (b : Bool) → ltb (length s) 16 ≡ b
         → Sized (if b short (if (ltb (be64 s 8) 16) (bad InvalidBox) (box (be32 s 4) (Bytes (be64 s 8 - 16)) 16))) (length s)
-    there true e = tt
+    there true e = ltb-true (length s) 16 e
     there false e = sound (ltb (be64 s 8) 16) (ltb-false (length s) 16 e)
 
 header-sized : (s : List ℕ) → Sized (headerOf s) (length s)
@@ -88,8 +88,11 @@ header-sized s = there (ltb (length s) 8) refl
 
     there : (b : Bool) → ltb (length s) 8 ≡ b
         → Sized (if b short (if (eqb (be32 s 0) 1) (extended s) (if (eqb (be32 s 0) 0) (box (be32 s 4) ToEnd 8) (if (ltb (be32 s 0) 8) (bad InvalidBox) (box (be32 s 4) (Bytes (be32 s 0 - 8)) 8))))) (length s)
-    there true e = tt
+    there true e = omega (arith, ltb-true (length s) 8 e)
     there false e = short-size (eqb (be32 s 0) 1) (ltb-false (length s) 8 e)
 
 pub header-fits : (s : List ℕ) {t : ℕ} {l : Left} {n : ℕ} → headerOf s ≡ box t l n → (8 ≤ n) × (n ≤ length s)
 header-fits s e = rw e at (header-sized s)
+
+pub header-under : (s : List ℕ) → headerOf s ≡ short → length s < 16
+header-under s e = rw e at (header-sized s)

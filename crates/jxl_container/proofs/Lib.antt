@@ -2,3 +2,5 @@ pub mod Bytes
 pub mod Signature
 pub mod Header
 pub mod Step
+pub mod Laws
+pub mod Unique
