@@ -1,2 +1,5 @@
 pub mod Longer
 pub mod Cut
+pub mod Sound
+pub mod Taking
+pub mod Stretches
