@@ -183,7 +183,7 @@ module _ (j : JxlpIndexState) (o : overIndex j ≡ false) (t : ℕ) where
 behind : (k : ℕ) (a b : List ℕ) → k ≤ length a → drop k (a ++ b) ≡ drop k a ++ b
 behind k a b h = drop-append-le k a b h
 
-row-right : (w i : ℕ) → i < 0x80000000 → overIndex (row w i) ≡ false
+pub row-right : (w i : ℕ) → i < 0x80000000 → overIndex (row w i) ≡ false
 row-right w i h = go (leb 0x80000000 w)
   where
     go : (t : Bool) → overIndex (if t JxlpFinished (Jxlp i)) ≡ false
@@ -297,7 +297,7 @@ module _ (j : JxlpIndexState) (o : overIndex j ≡ false) (a b : List ℕ) where
   cut-signature G.Neither e (inl s) = absurd (let z : _≡_ {A = ℕ} 0 1 = cc in omega arith)
   cut-signature G.Neither e (inr s) = rw (s, e) (keeps refl)
 
-or-false : (t : Bool) {u : Bool} → or t u ≡ false → (t ≡ false) × (u ≡ false)
+pub or-false : (t : Bool) {u : Bool} → or t u ≡ false → (t ≡ false) × (u ≡ false)
 or-false true e = absurd (let z : _≡_ {A = ℕ} 0 1 = cc in omega arith)
 or-false false e = (refl, e)
 

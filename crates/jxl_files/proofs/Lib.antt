@@ -3,3 +3,4 @@ pub mod Cut
 pub mod Sound
 pub mod Taking
 pub mod Stretches
+pub mod Listed
