@@ -4,3 +4,4 @@ pub mod Sound
 pub mod Taking
 pub mod Stretches
 pub mod Listed
+pub mod Theorems

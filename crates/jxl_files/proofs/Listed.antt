@@ -236,7 +236,7 @@ lists-step m a p [] i h = go (isRefused p) refl
     go false r = rw (step-empty p r) (rest-none m a (p .state) (p .jxlp) r ∙ rw (add-zero a))
 lists-step m a p (x ∷ s) i h = rw (step-state p (x ∷ s) (omega arith) i) (lists-state m a (p .state) (p .jxlp) i x s h)
 
-abbrev listing : Seen → Listing
+abbrev pub listing : Seen → Listing
 listing r = record { events = events r; consumed = r .consumed; stop = r .stop }
 
 -- what is taken of an input is what the grammar lists of it

@@ -30,12 +30,13 @@ abbrev pub onto : List Event → List Event → List Event
 onto [] fs = fs
 onto (e ∷ es) fs = before e (onto es fs)
 
--- `t` is the events `es` joined before what `r` saw
+-- `t` is the events `es` joined before what `r` saw, at most two of them in one
 pub record Joins (es : List Event) (r t : Seen) : Type 0 where
   pub events-are : events t ≡ onto es (events r)
   pub consumed-is : t .consumed ≡ r .consumed
   pub stop-is : t .stop ≡ r .stop
   pub next-is : t .next ≡ r .next
+  pub one-less : length es + length (r .shown) ≤ length (t .shown) + 1
 
 -- what was told of an input decides how taking from it goes on
 module _ {p : ContainerParser} {at : ℕ} {s : List ℕ} where
@@ -82,7 +83,7 @@ alone (E.AuxData t x l) = refl
 alone (E.AuxEnd t) = refl
 
 -- an event is not joined to what the same input shows next
-first-apart : (p : ContainerParser) (a : ℕ) (s : List ℕ) {q : ContainerParser} {c : ℕ} {u : List ℕ} {e : Event} {t : Seen}
+pub first-apart : (p : ContainerParser) (a : ℕ) (s : List ℕ) {q : ContainerParser} {c : ℕ} {u : List ℕ} {e : Event} {t : Seen}
     → stepOf p s ≡ shows e q c → Takes q (a + c) (drop c s) t u → before (shifted a e) (events t) ≡ shifted a e ∷ events t
 first-apart p a s h (more {r = r} k t) = apart p s h k a (events r)
 first-apart p a s {e = e} h (waits k) = alone (shifted a e)
@@ -96,13 +97,13 @@ further p at s c {v = v} h (more {q = q} {c = d} {e = e} {r = r} k t) =
     let rest : Takes q (at + (c + d)) (drop (c + d) s) r v =
         subst (λ (l : List ℕ). Takes q (at + (c + d)) l r v) (drop-drop d c s) (subst (λ (n : ℕ). Takes q n (drop d (drop c s)) r v) (add-assoc at c d) t) in
     (followed (placed at s (shifted c e) ∷ []) r, more far rest,
-    record { events-are = ap (λ (x : Event). x ∷ events r) (shifted-shifted at c e); consumed-is = refl; stop-is = refl; next-is = refl })
+    record { events-are = ap (λ (x : Event). x ∷ events r) (shifted-shifted at c e); consumed-is = refl; stop-is = refl; next-is = refl; one-less = omega arith })
 further p at s c h (waits {q = q} {c = d} k) =
     (stops want q (at + (c + d)), subst (λ (l : List ℕ). Takes p at s (stops want q (at + (c + d))) l) (sym (drop-drop d c s)) (waits (h ∙ ap (ahead c) k)),
-    record { events-are = refl; consumed-is = sym (add-assoc at c d); stop-is = refl; next-is = refl })
+    record { events-are = refl; consumed-is = sym (add-assoc at c d); stop-is = refl; next-is = refl; one-less = omega arith })
 further p at s c h (ends {q = q} {c = d} {n = n} k) =
     (stops (refused n) q (at + (c + d)), subst (λ (l : List ℕ). Takes p at s (stops (refused n) q (at + (c + d))) l) (sym (drop-drop d c s)) (ends (h ∙ ap (ahead c) k)),
-    record { events-are = refl; consumed-is = sym (add-assoc at c d); stop-is = refl; next-is = refl })
+    record { events-are = refl; consumed-is = sym (add-assoc at c d); stop-is = refl; next-is = refl; one-less = omega arith })
 
 -- a refusal stays, whatever comes then
 stay : (p : ContainerParser) (at : ℕ) (a b : List ℕ) {q : ContainerParser} {c n : ℕ} {t : Seen} {v : List ℕ} → c ≤ length a → Repeats n q
@@ -112,7 +113,7 @@ stay p at a b {q} {c} {n} {t} {v} within again h second =
     let rest : drop c (a ++ b) ≡ v = drop-append-le c a b within ∙ sym (same .1) in
     let place : t .consumed ≡ at + c = ap (λ (x : Seen). x .consumed) (same .0) ∙ add-zero (at + c) in
     (stops (refused n) q (at + c), subst (λ (l : List ℕ). Takes p at (a ++ b) (stops (refused n) q (at + c)) l) rest (ends h),
-    record { events-are = sym (ap events (same .0)); consumed-is = sym place; stop-is = sym (ap (λ (x : Seen). x .stop) (same .0)); next-is = sym (ap (λ (x : Seen). x .next) (same .0)) })
+    record { events-are = sym (ap events (same .0)); consumed-is = sym place; stop-is = sym (ap (λ (x : Seen). x .stop) (same .0)); next-is = sym (ap (λ (x : Seen). x .next) (same .0)); one-less = omega (arith, ap (λ (x : Seen). length (x .shown)) (same .0)) })
 
 -- a payload that goes on
 grow : (p : ContainerParser) (at : ℕ) (a b : List ℕ) {q o : ContainerParser} {e f g : Event} {c d : ℕ} {r t : Seen} {u v : List ℕ}
@@ -136,7 +137,7 @@ grow p at a b {q} {o} {e} {f} {g} {c} {d} {r} {t} {u} {v} l j k h first second =
     let joins : shifted at g ∷ events (then .0) ≡ before (shifted at e) (onto (eventsIn (r .shown)) (events t)) =
         sym (ap₂ (λ (es fs : List Event). before (shifted at e) (onto es fs)) (ap events (was .0)) sees ∙ grown-joined at (events (then .0)) j) in
     (followed (placed at (a ++ b) g ∷ []) (then .0), more h rest,
-    record { events-are = joins; consumed-is = sym (ap (λ (x : Seen). x .consumed) (then .2)); stop-is = sym (ap (λ (x : Seen). x .stop) (then .2)); next-is = sym (ap (λ (x : Seen). x .next) (then .2)) })
+    record { events-are = joins; consumed-is = sym (ap (λ (x : Seen). x .consumed) (then .2)); stop-is = sym (ap (λ (x : Seen). x .stop) (then .2)); next-is = sym (ap (λ (x : Seen). x .next) (then .2)); one-less = omega (arith, ap (λ (x : Seen). length (x .shown)) (then .2), ap (λ (x : Seen). length (eventsIn (x .shown))) (was .0)) })
 
 -- what is taken of `a`, and then of `b` behind the bytes left unread, is what is taken of both
 pub stretch : (p : ContainerParser) (at : ℕ) (a b : List ℕ) {r t : Seen} {u v : List ℕ} → Takes p at a r u → Takes (r .next) (r .consumed) (u ++ b) t v
@@ -160,5 +161,5 @@ stretch p at a b {t = t} {u = u} {v = v} (more {q = q} {c = c} {e = ev} {r = r} 
         let behind = sym (drop-append-le c a b (consumes p a e)) in
         let on : Takes q (at + c) (drop c (a ++ b)) w v = subst (λ (l : List ℕ). Takes q (at + c) l w v) behind rest in
         (followed (placed at (a ++ b) ev ∷ []) w, more h on,
-        record { events-are = sym (first-apart p at (a ++ b) h on) ∙ ap (before (shifted at ev)) (j .events-are); consumed-is = j .consumed-is; stop-is = j .stop-is; next-is = j .next-is })
+        record { events-are = sym (first-apart p at (a ++ b) h on) ∙ ap (before (shifted at ev)) (j .events-are); consumed-is = j .consumed-is; stop-is = j .stop-is; next-is = j .next-is; one-less = omega (arith, j .one-less) })
     onward (grows l j k h) w = grow p at a b l j k h first second

@@ -67,7 +67,7 @@ enough (suc n) p at s h = onward-takes (taking (suc n)) (stepOf p s) refl (λ e 
     left (inr z) {c = c} e (inr d) = inr (omega (arith, length-drop c s, consumes p s e))
 
 -- there is one way it goes
-only : {p : ContainerParser} {at : ℕ} {s u : List ℕ} {r : Seen} → Takes p at s r u → (n : ℕ) → length (r .shown) < n → taking n p at s ≡ r
+pub only : {p : ContainerParser} {at : ℕ} {s u : List ℕ} {r : Seen} → Takes p at s r u → (n : ℕ) → length (r .shown) < n → taking n p at s ≡ r
 unfolding taking
 only t zero h = absurd (omega arith)
 only {at = at} {s = s} (more {q = q} {c = c} {e = ev} e t) (suc n) h =
