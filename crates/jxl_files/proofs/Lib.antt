@@ -5,3 +5,4 @@ pub mod Taking
 pub mod Stretches
 pub mod Listed
 pub mod Theorems
+pub mod Payloads

@@ -63,9 +63,11 @@ module _ {p : ContainerParser} {at : ℕ} {s : List ℕ} where
   shown {u = u} {q = q} {e = ev} {c = c} h (more {q = q′} {c = c′} {e = ev′} {r = t} e rest) =
       let same : q′ ≡ q = cc in
       let far : c′ ≡ c = cc in
-      let event : ev′ ≡ ev = cc in
-      (t, subst (λ (x : ContainerParser). Takes x (at + c) (drop c s) t u) same (subst (λ (n : ℕ). Takes q′ (at + n) (drop n s) t u) far rest),
-      ap (λ (x : Event). followed (placed at s x ∷ []) t) event)
+      let event : ev′ ≡ ev = cc in (
+        t,
+        subst (λ (x : ContainerParser). Takes x (at + c) (drop c s) t u) same (subst (λ (n : ℕ). Takes q′ (at + n) (drop n s) t u) far rest),
+        ap (λ (x : Event). followed (placed at s x ∷ []) t) event,
+      )
   shown h (waits e) = absurd (let z : _≡_ {A = ℕ} 0 1 = cc in omega arith)
   shown h (ends e) = absurd (let z : _≡_ {A = ℕ} 0 1 = cc in omega arith)
 
@@ -95,15 +97,21 @@ further : (p : ContainerParser) (at : ℕ) (s : List ℕ) (c : ℕ) {q : Contain
 further p at s c {v = v} h (more {q = q} {c = d} {e = e} {r = r} k t) =
     let far = h ∙ ap (ahead c) k in
     let rest : Takes q (at + (c + d)) (drop (c + d) s) r v =
-        subst (λ (l : List ℕ). Takes q (at + (c + d)) l r v) (drop-drop d c s) (subst (λ (n : ℕ). Takes q n (drop d (drop c s)) r v) (add-assoc at c d) t) in
-    (followed (placed at s (shifted c e) ∷ []) r, more far rest,
-    record { events-are = ap (λ (x : Event). x ∷ events r) (shifted-shifted at c e); consumed-is = refl; stop-is = refl; next-is = refl; one-less = omega arith })
-further p at s c h (waits {q = q} {c = d} k) =
-    (stops want q (at + (c + d)), subst (λ (l : List ℕ). Takes p at s (stops want q (at + (c + d))) l) (sym (drop-drop d c s)) (waits (h ∙ ap (ahead c) k)),
-    record { events-are = refl; consumed-is = sym (add-assoc at c d); stop-is = refl; next-is = refl; one-less = omega arith })
-further p at s c h (ends {q = q} {c = d} {n = n} k) =
-    (stops (refused n) q (at + (c + d)), subst (λ (l : List ℕ). Takes p at s (stops (refused n) q (at + (c + d))) l) (sym (drop-drop d c s)) (ends (h ∙ ap (ahead c) k)),
-    record { events-are = refl; consumed-is = sym (add-assoc at c d); stop-is = refl; next-is = refl; one-less = omega arith })
+    subst (λ (l : List ℕ). Takes q (at + (c + d)) l r v) (drop-drop d c s) (subst (λ (n : ℕ). Takes q n (drop d (drop c s)) r v) (add-assoc at c d) t) in (
+      followed (placed at s (shifted c e) ∷ []) r,
+      more far rest,
+      record { events-are = ap (λ (x : Event). x ∷ events r) (shifted-shifted at c e); consumed-is = refl; stop-is = refl; next-is = refl; one-less = omega arith },
+    )
+further p at s c h (waits {q = q} {c = d} k) = (
+  stops want q (at + (c + d)),
+  subst (λ (l : List ℕ). Takes p at s (stops want q (at + (c + d))) l) (sym (drop-drop d c s)) (waits (h ∙ ap (ahead c) k)),
+  record { events-are = refl; consumed-is = sym (add-assoc at c d); stop-is = refl; next-is = refl; one-less = omega arith },
+)
+further p at s c h (ends {q = q} {c = d} {n = n} k) = (
+  stops (refused n) q (at + (c + d)),
+  subst (λ (l : List ℕ). Takes p at s (stops (refused n) q (at + (c + d))) l) (sym (drop-drop d c s)) (ends (h ∙ ap (ahead c) k)),
+  record { events-are = refl; consumed-is = sym (add-assoc at c d); stop-is = refl; next-is = refl; one-less = omega arith },
+)
 
 -- a refusal stays, whatever comes then
 stay : (p : ContainerParser) (at : ℕ) (a b : List ℕ) {q : ContainerParser} {c n : ℕ} {t : Seen} {v : List ℕ} → c ≤ length a → Repeats n q
@@ -111,9 +119,11 @@ stay : (p : ContainerParser) (at : ℕ) (a b : List ℕ) {q : ContainerParser} {
 stay p at a b {q} {c} {n} {t} {v} within again h second =
     let same = ended (again (drop c a ++ b)) second in
     let rest : drop c (a ++ b) ≡ v = drop-append-le c a b within ∙ sym (same .1) in
-    let place : t .consumed ≡ at + c = ap (λ (x : Seen). x .consumed) (same .0) ∙ add-zero (at + c) in
-    (stops (refused n) q (at + c), subst (λ (l : List ℕ). Takes p at (a ++ b) (stops (refused n) q (at + c)) l) rest (ends h),
-    record { events-are = sym (ap events (same .0)); consumed-is = sym place; stop-is = sym (ap (λ (x : Seen). x .stop) (same .0)); next-is = sym (ap (λ (x : Seen). x .next) (same .0)); one-less = omega (arith, ap (λ (x : Seen). length (x .shown)) (same .0)) })
+    let place : t .consumed ≡ at + c = ap (λ (x : Seen). x .consumed) (same .0) ∙ add-zero (at + c) in (
+      stops (refused n) q (at + c),
+      subst (λ (l : List ℕ). Takes p at (a ++ b) (stops (refused n) q (at + c)) l) rest (ends h),
+      record { events-are = sym (ap events (same .0)); consumed-is = sym place; stop-is = sym (ap (λ (x : Seen). x .stop) (same .0)); next-is = sym (ap (λ (x : Seen). x .next) (same .0)); one-less = omega (arith, ap (λ (x : Seen). length (x .shown)) (same .0)) },
+    )
 
 -- a payload that goes on
 grow : (p : ContainerParser) (at : ℕ) (a b : List ℕ) {q o : ContainerParser} {e f g : Event} {c d : ℕ} {r t : Seen} {u v : List ℕ}
@@ -127,17 +137,19 @@ grow p at a b {q} {o} {e} {f} {g} {c} {d} {r} {t} {u} {v} l j k h first second =
     let none : u ≡ [] = was .1 ∙ over in
     let place : r .consumed ≡ at + c = ap (λ (x : Seen). x .consumed) (was .0) ∙ add-zero (at + c) in
     let here : Takes q (at + c) b t v =
-        subst (λ (l : List ℕ). Takes q (at + c) (l ++ b) t v) none
-        (subst (λ (n : ℕ). Takes q n (u ++ b) t v) place (subst (λ (x : ContainerParser). Takes x (r .consumed) (u ++ b) t v) (ap (λ (x : Seen). x .next) (was .0)) second)) in
+    subst (λ (l : List ℕ). Takes q (at + c) (l ++ b) t v) none
+    (subst (λ (n : ℕ). Takes q n (u ++ b) t v) place (subst (λ (x : ContainerParser). Takes x (r .consumed) (u ++ b) t v) (ap (λ (x : Seen). x .next) (was .0)) second)) in
     let then = shown k here in
     let on : drop d b ≡ drop (c + d) (a ++ b) = sym (ap (λ (n : ℕ). drop (n + d) (a ++ b)) l ∙ drop-append-add a b d) in
     let rest : Takes o (at + (c + d)) (drop (c + d) (a ++ b)) (then .0) v =
-        subst (λ (l : List ℕ). Takes o (at + (c + d)) l (then .0) v) on (subst (λ (n : ℕ). Takes o n (drop d b) (then .0) v) (add-assoc at c d) (then .1)) in
+    subst (λ (l : List ℕ). Takes o (at + (c + d)) l (then .0) v) on (subst (λ (n : ℕ). Takes o n (drop d b) (then .0) v) (add-assoc at c d) (then .1)) in
     let sees : events t ≡ shifted (at + c) f ∷ events (then .0) = ap events (then .2) in
     let joins : shifted at g ∷ events (then .0) ≡ before (shifted at e) (onto (eventsIn (r .shown)) (events t)) =
-        sym (ap₂ (λ (es fs : List Event). before (shifted at e) (onto es fs)) (ap events (was .0)) sees ∙ grown-joined at (events (then .0)) j) in
-    (followed (placed at (a ++ b) g ∷ []) (then .0), more h rest,
-    record { events-are = joins; consumed-is = sym (ap (λ (x : Seen). x .consumed) (then .2)); stop-is = sym (ap (λ (x : Seen). x .stop) (then .2)); next-is = sym (ap (λ (x : Seen). x .next) (then .2)); one-less = omega (arith, ap (λ (x : Seen). length (x .shown)) (then .2), ap (λ (x : Seen). length (eventsIn (x .shown))) (was .0)) })
+    sym (ap₂ (λ (es fs : List Event). before (shifted at e) (onto es fs)) (ap events (was .0)) sees ∙ grown-joined at (events (then .0)) j) in (
+      followed (placed at (a ++ b) g ∷ []) (then .0),
+      more h rest,
+      record { events-are = joins; consumed-is = sym (ap (λ (x : Seen). x .consumed) (then .2)); stop-is = sym (ap (λ (x : Seen). x .stop) (then .2)); next-is = sym (ap (λ (x : Seen). x .next) (then .2)); one-less = omega (arith, ap (λ (x : Seen). length (x .shown)) (then .2), ap (λ (x : Seen). length (eventsIn (x .shown))) (was .0)) },
+    )
 
 -- what is taken of `a`, and then of `b` behind the bytes left unread, is what is taken of both
 pub stretch : (p : ContainerParser) (at : ℕ) (a b : List ℕ) {r t : Seen} {u v : List ℕ} → Takes p at a r u → Takes (r .next) (r .consumed) (u ++ b) t v
@@ -159,7 +171,9 @@ stretch p at a b {t = t} {u = u} {v = v} (more {q = q} {c = c} {e = ev} {r = r} 
         → (w : Seen) × Takes p at (a ++ b) w v × Joins (shifted at ev ∷ eventsIn (r .shown)) t w
     onward (keeps h) (w, rest, j) =
         let behind = sym (drop-append-le c a b (consumes p a e)) in
-        let on : Takes q (at + c) (drop c (a ++ b)) w v = subst (λ (l : List ℕ). Takes q (at + c) l w v) behind rest in
-        (followed (placed at (a ++ b) ev ∷ []) w, more h on,
-        record { events-are = sym (first-apart p at (a ++ b) h on) ∙ ap (before (shifted at ev)) (j .events-are); consumed-is = j .consumed-is; stop-is = j .stop-is; next-is = j .next-is; one-less = omega (arith, j .one-less) })
+        let on : Takes q (at + c) (drop c (a ++ b)) w v = subst (λ (l : List ℕ). Takes q (at + c) l w v) behind rest in (
+          followed (placed at (a ++ b) ev ∷ []) w,
+          more h on,
+          record { events-are = sym (first-apart p at (a ++ b) h on) ∙ ap (before (shifted at ev)) (j .events-are); consumed-is = j .consumed-is; stop-is = j .stop-is; next-is = j .next-is; one-less = omega (arith, j .one-less) },
+        )
     onward (grows l j k h) w = grow p at a b l j k h first second

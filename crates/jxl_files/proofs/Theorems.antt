@@ -55,7 +55,7 @@ idle (ends {p = p} {q = q} {at = at} {c = c} {n = n} {s = s} e) =
     subst (λ (m : ℕ). Takes q (at + c) (drop c s) (stops (refused n) q m) (drop c s)) (add-zero (at + c)) (ends ((rw e at (kept p s)) .1 (drop c s)))
 
 -- the bytes left unread are those behind the bytes consumed
-unread : {p : ContainerParser} {at : ℕ} {s u : List ℕ} {r : Seen} → Takes p at s r u → (at ≤ r .consumed) × (u ≡ drop (r .consumed - at) s)
+pub unread : {p : ContainerParser} {at : ℕ} {s u : List ℕ} {r : Seen} → Takes p at s r u → (at ≤ r .consumed) × (u ≡ drop (r .consumed - at) s)
 unread {at = at} {s = s} (more {p = p} {c = c} {r = r} e t) =
     let then = unread t in
     let far : c + (r .consumed - (at + c)) ≡ r .consumed - at = omega (arith, then .0) in
@@ -91,7 +91,7 @@ one-more xs {f} a j =
       events-are = joined-onto xs (f .shown) ∙ ap (onto (eventsIn xs)) (a .events-are) ∙ sym (j .events-are);
       consumed-is = a .consumed-is ∙ sym (j .consumed-is);
       stop-is = a .stop-is ∙ sym (j .stop-is);
-      next-is = a .next-is ∙ sym (j .next-is)
+      next-is = a .next-is ∙ sym (j .next-is);
     }
 
 -- what is taken of a packet behind the bytes left unread, and what it leaves
@@ -102,9 +102,12 @@ first p at s = let got = takes p at s in subst (Takes p at s (take p at s)) (unr
 cuts : (xs : List (List ℕ)) (w : Stop) (p : ContainerParser) (at : ℕ) (u : List ℕ) → Idle w p at u
     → (t : Seen) × (v : List ℕ) × Takes p at (u ++ whole xs) t v × Agrees (fed w p at u xs) t
 unfolding fed
-cuts [] w p at u i =
-    (stops w p at, u, subst (λ (l : List ℕ). Takes p at l (stops w p at) u) (sym (append-nil u)) i,
-    record { events-are = refl; consumed-is = refl; stop-is = refl; next-is = refl })
+cuts [] w p at u i = (
+  stops w p at,
+  u,
+  subst (λ (l : List ℕ). Takes p at l (stops w p at) u) (sym (append-nil u)) i,
+  record { events-are = refl; consumed-is = refl; stop-is = refl; next-is = refl },
+)
 cuts (x ∷ xs) w p at u i =
     let r : Seen = take p at (u ++ x) in
     let then = cuts xs (r .stop) (r .next) (r .consumed) (drop (r .consumed - at) (u ++ x)) (idle (first p at (u ++ x))) in
@@ -181,17 +184,26 @@ cut-most x (y ∷ ys) w p at u =
     let after = takes (r .next) (r .consumed) (l ++ whole (y ∷ ys)) in
     let both = stretch p at (u ++ x) (whole (y ∷ ys)) (first p at (u ++ x)) (after .1) in
     let all = take-is (subst (λ (l : List ℕ). Takes p at l (both .0) (after .0)) (append-assoc u x (whole (y ∷ ys))) (both .1)) in
-    omega
-    (arith, then, both .2 .one-less, counted (r .shown), ap (λ (s : Seen). length (s .shown)) all,
-    length-append (r .shown) (fed (r .stop) (r .next) (r .consumed) l (y ∷ ys) .shown))
+    omega (
+      arith,
+      then,
+      both .2 .one-less,
+      counted (r .shown),
+      ap (λ (s : Seen). length (s .shown)) all,
+      length-append (r .shown) (fed (r .stop) (r .next) (r .consumed) l (y ∷ ys) .shown),
+    )
 
 -- most events: k packets, one at least, give at most k - 1 events more than all their bytes fed at once
 pub at-most-more : (p : ContainerParser) (at : ℕ) (x : List ℕ) (xs : List (List ℕ))
     → length (events (feeding p at (x ∷ xs))) ≤ length (events (feeding p at (whole (x ∷ xs) ∷ []))) + length xs
 at-most-more p at x xs =
-    omega
-    (arith, cut-most x xs want p at [], counted (feeding p at (x ∷ xs) .shown), counted (take p at (whole (x ∷ xs)) .shown),
-    ap (λ (r : Seen). length (events r)) (whole-feed p at (whole (x ∷ xs))))
+    omega (
+      arith,
+      cut-most x xs want p at [],
+      counted (feeding p at (x ∷ xs) .shown),
+      counted (take p at (whole (x ∷ xs)) .shown),
+      ap (λ (r : Seen). length (events r)) (whole-feed p at (whole (x ∷ xs))),
+    )
 
 -- most events: n bytes in k packets, one at least, give at most n / 3 + 2 + k events
 pub most-events : (p : ContainerParser) (at : ℕ) (x : List ℕ) (xs : List (List ℕ))
