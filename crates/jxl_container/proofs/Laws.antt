@@ -1,4 +1,4 @@
--- What every step keeps: a refusal stays; no step consumes more than the input has; a payload shown lies inside it; on WANT at most 15 bytes are left.
+-- What every step keeps, carried through its rules.
 use mathlib.Core.Path.{_≡_, refl, sym, ap, _∙_}
 use mathlib.Core.Bool.{Bool, true, false}
 use mathlib.Core.List.{List, [], _∷_}
@@ -13,6 +13,7 @@ use Rattle.jxl_container.specs.Record.{number, at, under, less, toEnd, r
 use Rattle.jxl_container.specs.Types.{jxlc, jxlp, brob, reserved}
 use Rattle.jxl_container.specs.Header.{Header, short, bad, box, headerOf}
 use Rattle.jxl_container.specs.Step.{Told, shows, wants, refuses, refused, refuse, shifted, ahead, inCode, codePart, codeStep, auxPart, row, indexStep, innerStep, jxlcStep, jxlpNext, jxlpStep, brobStep, boxStep, headerStep, signatureStep, awaited, stateStep, stepOf}
+use Rattle.jxl_container.specs.Laws.{RefusedStays, Repeats, Inside, Kept, EveryStep}
 use Rattle.jxl_container.proofs.Header.{header-fits, header-under}
 use Rattle.jxl_container.proofs.Signature.{signature-under, signature-there}
 use Rattle.jxl_container.proofs.Step.{code-wants, code-pending, code-shows, index-wants, index-right, index-wrong, inner-wants, inner-reserved, inner-shows, box-jxlc, box-jxlp, box-brob, box-aux, step-empty, step-empty-refused, step-state, step-impossible}
@@ -32,15 +33,9 @@ use Rattle.jxl_container.specs.declared.Refusal.the-variants.{InvalidBox
 use Rattle.jxl_container.specs.declared.parse.Event.{Event}
 use Rattle.jxl_container.specs.declared.parse.Event.the-variants as E
 
--- refused stays: a refused parser answers its refusal to every input, consumes nothing and is unchanged
-pub refused-stays : (k : BitstreamKind) (r : Refusal) (j : JxlpIndexState) (s : List ℕ)
-    → stepOf (at (S.Refused k r) j) s ≡ refuses (number r) (at (S.Refused k r) j) 0
+pub refused-stays : RefusedStays
 refused-stays k r j [] = step-empty-refused (at (S.Refused k r) j) refl
 refused-stays k r j (x ∷ s) = step-state (at (S.Refused k r) j) (x ∷ s) (omega arith) refl
-
--- a parser that answers n to every input
-abbrev pub Repeats : ℕ → ContainerParser → Type 0
-Repeats n p = (s : List ℕ) → stepOf p s ≡ refuses n p 0
 
 stays-in : (d : DetectState) (j : JxlpIndexState) → refusedIn d ≡ true → (n : ℕ) × Repeats n (at d j)
 stays-in S.WaitingSignature j e = absurd (let z : _≡_ {A = ℕ} 0 1 = cc in omega arith)
@@ -53,21 +48,6 @@ stays-in (S.Refused k r) j e = (number r, refused-stays k r j)
 
 pub stays : (p : ContainerParser) → isRefused p ≡ true → (n : ℕ) × Repeats n p
 stays p e = stays-in (p .state) (p .jxlp) e
-
--- a payload that lies inside n bytes
-abbrev pub Inside : Event → ℕ → Type 0
-Inside (E.Kind k) n = Unit {0}
-Inside E.NoMoreAux n = Unit {0}
-Inside (E.Codestream a l) n = a + l ≤ n
-Inside (E.AuxStart t b e) n = Unit {0}
-Inside (E.AuxData t a l) n = a + l ≤ n
-Inside (E.AuxEnd t) n = Unit {0}
-
--- what a step tells of n bytes of input
-abbrev pub Kept : ℕ → Told → Type 0
-Kept n (shows e p c) = (c ≤ n) × Inside e n
-Kept n (wants p c) = (c ≤ n) × (n ≤ c + 15)
-Kept n (refuses r p c) = (c ≤ n) × Repeats r p
 
 inside-ahead : (k n : ℕ) (e : Event) → k ≤ n → Inside e (n - k) → Inside (shifted k e) n
 inside-ahead k n (E.Kind x) h i = tt
@@ -183,9 +163,8 @@ kept-state (S.InAuxBox t l) j s = kept-aux j t l (length s)
 kept-state (S.InCodestream k l pending) j s = kept-code j k l pending s
 kept-state (S.Refused k r) j s = (omega arith, refused-stays k r j)
 
--- every record and every input
-pub kept : (p : ContainerParser) (s : List ℕ) → Kept (length s) (stepOf p s)
-kept p s = go s (isRefused p) refl (impossible p) refl
+pub every-step : EveryStep
+every-step p s = go s (isRefused p) refl (impossible p) refl
   where
     go : (s : List ℕ) (t : Bool) → isRefused p ≡ t → (u : Bool) → impossible p ≡ u → Kept (length s) (stepOf p s)
     go [] true r u i = rw (step-empty-refused p r) (kept-state (p .state) (p .jxlp) [])

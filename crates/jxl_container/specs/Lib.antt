@@ -4,3 +4,4 @@ pub mod Record
 pub mod Types
 pub mod Header
 pub mod Step
+pub mod Laws

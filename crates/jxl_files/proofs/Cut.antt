@@ -34,7 +34,7 @@ use Rattle.jxl_container.specs.declared.DetectState.the-variants as S
 use Rattle.jxl_container.specs.declared.ContainerParser.{ContainerParser}
 use Rattle.jxl_container.specs.declared.parse.Event.{Event}
 use Rattle.jxl_container.specs.declared.parse.Event.the-variants as E
-use Rattle.jxl_files.proofs.Longer.{be32-more, header-whole, signature-more}
+use Rattle.jxl_files.proofs.MoreInput.{be32-more, header-whole, signature-more}
 
 -- part `e` ends where c bytes are consumed; `f` at the front of what comes then goes on from there; `g` is the two in one
 pub data Grown : Event → ℕ → Event → Event → Type 0 where

@@ -1,4 +1,4 @@
-pub mod Longer
+pub mod MoreInput
 pub mod Cut
 pub mod Sound
 pub mod Taking
@@ -6,3 +6,4 @@ pub mod Stretches
 pub mod Listed
 pub mod Theorems
 pub mod Payloads
+pub mod Joining

@@ -35,6 +35,7 @@ use Rattle.jxl_container.specs.declared.parse.Event.{Event}
 use Rattle.jxl_container.specs.declared.parse.Event.the-variants as E
 use Rattle.jxl_files.specs.Grammar.{Stop, want, refused, Listing, ends, then, Codestreams, none, single, upTo, whole, coded, code, closed, aux, row, indexed, inner, jxlcBox, jxlpBox, boxed, headed, boxes, nothing, bare, signed, file}
 use Rattle.jxl_files.specs.Feeding.{Seen, events}
+use Rattle.jxl_files.specs.Theorems.{listing}
 use Rattle.jxl_files.proofs.Cut.{row-right, or-false}
 use Rattle.jxl_files.proofs.Taking.{Takes, more, waits}
 use Rattle.jxl_files.proofs.Taking as Taking
@@ -235,9 +236,6 @@ lists-step m a p [] i h = go (isRefused p) refl
     go true r = lists-refused m a (p .state) (p .jxlp) r []
     go false r = rw (step-empty p r) (rest-none m a (p .state) (p .jxlp) r ∙ rw (add-zero a))
 lists-step m a p (x ∷ s) i h = rw (step-state p (x ∷ s) (omega arith) i) (lists-state m a (p .state) (p .jxlp) i x s h)
-
-abbrev pub listing : Seen → Listing
-listing r = record { events = events r; consumed = r .consumed; stop = r .stop }
 
 -- what is taken of an input is what the grammar lists of it
 pub listed : (m : ℕ) (p : ContainerParser) (a : ℕ) (s : List ℕ) {r : Seen} {u : List ℕ} → impossible p ≡ false → length s ≤ m → Takes p a s r u

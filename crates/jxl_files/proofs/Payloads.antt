@@ -8,25 +8,18 @@ use lib.ListN.{length, drop, length-append, length-drop, length-take, take-appen
 use lib.ListN.{take as prefix}
 use lib.Seq.{drop-append-le, drop-append-add, take-append-le, length-take-le}
 use Rattle.jxl_container.specs.Step.{shows, shifted, stepOf, part, payloadOf}
-use Rattle.jxl_container.proofs.Laws.{Inside, kept}
+use Rattle.jxl_container.specs.Laws.{Inside}
+use Rattle.jxl_container.proofs.Laws.{every-step}
 use Rattle.jxl_container.proofs.Step.{part-in}
 use Rattle.jxl_container.specs.declared.ContainerParser.{ContainerParser}
 use Rattle.jxl_container.specs.declared.parse.Event.{Event}
 use Rattle.jxl_container.specs.declared.parse.Event.the-variants as E
 use Rattle.jxl_files.specs.Grammar.{Stop, want}
 use Rattle.jxl_files.specs.Feeding.{Shown, Seen, placed, take, fed, feeding, whole}
+use Rattle.jxl_files.specs.Theorems.{Right, All, BytesShown}
 use Rattle.jxl_files.proofs.Sound.{consumes}
 use Rattle.jxl_files.proofs.Taking.{Takes, more, waits, ends, takes}
 use Rattle.jxl_files.proofs.Theorems.{unread}
-
--- the bytes shown are the file's at the event's place, and all of them are there
-pub record Right (file : List ℕ) (x : Shown) : Type 0 where
-  pub same : x .bytes ≡ payloadOf file (x .event)
-  pub inside : Inside (x .event) (length file)
-
-abbrev pub All : (Shown → Type 0) → List Shown → Type 0
-All P [] = Unit {0}
-All P (x ∷ xs) = P x × All P xs
 
 all-append : (P : Shown → Type 0) (xs ys : List Shown) → All P xs → All P ys → All P (xs ++ ys)
 all-append P [] ys a b = b
@@ -65,7 +58,7 @@ module _ (pre s post : List ℕ) where
 taken-right : (pre post : List ℕ) {p : ContainerParser} {at : ℕ} {s u : List ℕ} {r : Seen} → length pre ≡ at → Takes p at s r u → All (Right (pre ++ (s ++ post))) (r .shown)
 taken-right pre post {p} {at} {s} l (more {c = c} {e = e} {r = r} k t) =
     let within = consumes p s k in
-    let here : Right (pre ++ (s ++ post)) (placed at s e) = subst (λ (n : ℕ). Right (pre ++ (s ++ post)) (placed n s e)) l (placed-right pre s post e ((rw k at (kept p s)) .1)) in
+    let here : Right (pre ++ (s ++ post)) (placed at s e) = subst (λ (n : ℕ). Right (pre ++ (s ++ post)) (placed n s e)) l (placed-right pre s post e ((rw k at (every-step p s)) .1)) in
     let far : length (pre ++ prefix c s) ≡ at + c = behind pre s post c within ∙ ap (λ (n : ℕ). n + c) l in
     (here, subst (λ (f : List ℕ). All (Right f) (r .shown)) (around pre s post c) (taken-right (pre ++ prefix c s) post far t))
 taken-right pre post l (waits k) = tt
@@ -74,8 +67,8 @@ taken-right pre post l (ends k) = tt
 -- no more is consumed than is there
 within : {p : ContainerParser} {at : ℕ} {s u : List ℕ} {r : Seen} → Takes p at s r u → r .consumed ≤ at + length s
 within {p} {s = s} (more {c = c} k t) = omega (arith, within t, length-drop c s, consumes p s k)
-within {p} {s = s} (waits k) = omega (arith, (rw k at (kept p s)) .0)
-within {p} {s = s} (ends k) = omega (arith, (rw k at (kept p s)) .0)
+within {p} {s = s} (waits k) = omega (arith, (rw k at (every-step p s)) .0)
+within {p} {s = s} (ends k) = omega (arith, (rw k at (every-step p s)) .0)
 
 fed-right : (xs : List (List ℕ)) (w : Stop) (p : ContainerParser) (at : ℕ) (pre u : List ℕ) → length pre ≡ at → All (Right (pre ++ (u ++ whole xs))) (fed w p at u xs .shown)
 unfolding fed
@@ -95,6 +88,5 @@ fed-right (x ∷ xs) w p at pre u l =
     subst (λ (f : List ℕ). All (Right f) (fed w p at u (x ∷ xs) .shown)) file
     (all-append (Right (pre ++ ((u ++ x) ++ whole xs))) (r .shown) (fed (r .stop) (r .next) (r .consumed) (drop c (u ++ x)) xs .shown) here there)
 
--- bytes shown: each payload shown is, byte for byte, the file at its place
-pub bytes-shown : (p : ContainerParser) (xs : List (List ℕ)) → All (Right (whole xs)) (feeding p 0 xs .shown)
+pub bytes-shown : BytesShown
 bytes-shown p xs = fed-right xs want p 0 [] [] refl

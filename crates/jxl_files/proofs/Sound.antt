@@ -17,7 +17,7 @@ use Rattle.jxl_container.specs.Signature.{signatureOf}
 use Rattle.jxl_container.specs.Types.{jxlc, jxlp, brob, reserved}
 use Rattle.jxl_container.specs.Step.{Told, shows, wants, refuses, refuse, shifted, ahead, inCode, codePart, codeStep, auxPart, row, indexStep, innerStep, jxlcStep, jxlpNext, jxlpStep, brobStep, boxStep, headerStep, signatureStep, awaited, stateStep, stepOf}
 use Rattle.jxl_container.proofs.Step.{code-wants, code-pending, code-shows, index-wants, index-right, index-wrong, inner-wants, inner-reserved, inner-shows, box-jxlc, box-jxlp, box-brob, box-aux, step-empty, step-empty-refused, step-state, step-impossible}
-use Rattle.jxl_container.proofs.Laws.{Kept, kept, Repeats, stays}
+use Rattle.jxl_container.proofs.Laws.{every-step, stays}
 use Rattle.jxl_container.proofs.Header.{header-fits}
 use Rattle.jxl_container.proofs.Signature.{signature-there}
 use Rattle.jxl_container.specs.declared.consts.Signature.{Signature}
@@ -241,7 +241,7 @@ shows-open p s h = go (isRefused p) refl
 
 -- what an event costs
 pub consumes : (p : ContainerParser) (s : List ℕ) {e : Event} {q : ContainerParser} {c : ℕ} → stepOf p s ≡ shows e q c → c ≤ length s
-consumes p s h = (rw h at (kept p s)) .0
+consumes p s h = (rw h at (every-step p s)) .0
 
 pub costs : (p : ContainerParser) (s : List ℕ) {e : Event} {q : ContainerParser} {c : ℕ} → stepOf p s ≡ shows e q c
     → (3 ≤ length s + weight p) × ((length s ≤ c) ⊎ (3 + weight q ≤ c + weight p))

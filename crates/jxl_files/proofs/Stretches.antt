@@ -12,7 +12,8 @@ use lib.Seq.{drop-drop, drop-append-le, drop-append-add}
 use borrow.Author.Tests.{eq-eqb}
 use Rattle.jxl_container.specs.Record.{isRefused}
 use Rattle.jxl_container.specs.Step.{Told, shows, wants, refuses, shifted, ahead, stepOf}
-use Rattle.jxl_container.proofs.Laws.{Repeats, kept}
+use Rattle.jxl_container.specs.Laws.{Repeats}
+use Rattle.jxl_container.proofs.Laws.{every-step}
 use Rattle.jxl_container.proofs.Step.{shifted-shifted, step-empty}
 use Rattle.jxl_container.specs.declared.ContainerParser.{ContainerParser}
 use Rattle.jxl_container.specs.declared.parse.Event.{Event}
@@ -76,20 +77,12 @@ grown-joined : (a : ℕ) (es : List Event) {e f g : Event} {c : ℕ} → Grown e
 grown-joined a es (code {x} {n} {m} {c} e) = rw (eq-eqb (a + x + n) (a + c + 0) (omega arith))
 grown-joined a es (aux {t} {x} {n} {m} {c} e) = rw (eq-eqb t t refl, eq-eqb (a + x + n) (a + c + 0) (omega arith))
 
-alone : (e : Event) → before e [] ≡ e ∷ []
-alone (E.Kind k) = refl
-alone E.NoMoreAux = refl
-alone (E.Codestream x l) = refl
-alone (E.AuxStart t b i) = refl
-alone (E.AuxData t x l) = refl
-alone (E.AuxEnd t) = refl
-
 -- an event is not joined to what the same input shows next
 pub first-apart : (p : ContainerParser) (a : ℕ) (s : List ℕ) {q : ContainerParser} {c : ℕ} {u : List ℕ} {e : Event} {t : Seen}
     → stepOf p s ≡ shows e q c → Takes q (a + c) (drop c s) t u → before (shifted a e) (events t) ≡ shifted a e ∷ events t
 first-apart p a s h (more {r = r} k t) = apart p s h k a (events r)
-first-apart p a s {e = e} h (waits k) = alone (shifted a e)
-first-apart p a s {e = e} h (ends k) = alone (shifted a e)
+first-apart p a s h (waits k) = refl
+first-apart p a s h (ends k) = refl
 
 -- a record that waited further on, and goes on from there
 further : (p : ContainerParser) (at : ℕ) (s : List ℕ) (c : ℕ) {q : ContainerParser} {r : Seen} {v : List ℕ} → stepOf p s ≡ ahead c (stepOf q (drop c s))
@@ -158,12 +151,12 @@ stretch p at a b {t = t} {v = v} (waits {q = q} {c = c} e) second = wait (rw e a
   where
     wait : Cut a b (stepOf p (a ++ b)) (wants q c) → (w : Seen) × Takes p at (a ++ b) w v × Joins [] t w
     wait (Cut.waits h) =
-        let behind = drop-append-le c a b ((rw e at (kept p a)) .0) in
+        let behind = drop-append-le c a b ((rw e at (every-step p a)) .0) in
         further p at (a ++ b) c (h ∙ ap (λ (l : List ℕ). ahead c (stepOf q l)) (sym behind)) (subst (λ (l : List ℕ). Takes q (at + c) l t v) (sym behind) second)
 stretch p at a b {t = t} {v = v} (ends {q = q} {c = c} {n = n} e) second = refuse (rw e at (cut-step p a b))
   where
     refuse : Cut a b (stepOf p (a ++ b)) (refuses n q c) → (w : Seen) × Takes p at (a ++ b) w v × Joins [] t w
-    refuse (remains h) = stay p at a b ((rw e at (kept p a)) .0) ((rw e at (kept p a)) .1) h second
+    refuse (remains h) = stay p at a b ((rw e at (every-step p a)) .0) ((rw e at (every-step p a)) .1) h second
 stretch p at a b {t = t} {u = u} {v = v} (more {q = q} {c = c} {e = ev} {r = r} e first) second =
     onward (rw e at (cut-step p a b)) (stretch q (at + c) (drop c a) b first second)
   where

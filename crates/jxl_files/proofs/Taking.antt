@@ -10,7 +10,7 @@ use lib.ListN.{length, drop, length-drop, length-append, drop-of-length-le}
 use lib.Seq.{drop-drop}
 use Rattle.jxl_container.specs.Record.{isRefused}
 use Rattle.jxl_container.specs.Step.{Told, shows, wants, refuses, shifted, stepOf}
-use Rattle.jxl_container.proofs.Laws.{kept}
+use Rattle.jxl_container.proofs.Laws.{every-step}
 use Rattle.jxl_container.proofs.Step.{none}
 use Rattle.jxl_container.specs.declared.ContainerParser.{ContainerParser}
 use Rattle.jxl_container.specs.declared.parse.Event.{Event}

@@ -7,32 +7,54 @@ use Rattle.jxl_container.specs.Bytes.{if, and}
 use Rattle.jxl_container.specs.declared.parse.Event.{Event}
 use Rattle.jxl_container.specs.declared.parse.Event.the-variants as E
 
--- an event joined before the list of those that follow: two parts of one payload become one where the second starts where the first ends
-abbrev pub joinCode : ℕ → ℕ → List Event → List Event
-joinCode a n [] = E.Codestream a n ∷ []
-joinCode a n (E.Kind k ∷ es) = E.Codestream a n ∷ E.Kind k ∷ es
-joinCode a n (E.NoMoreAux ∷ es) = E.Codestream a n ∷ E.NoMoreAux ∷ es
-joinCode a n (E.Codestream b m ∷ es) = if (eqb (a + n) b) (E.Codestream a (n + m) ∷ es) (E.Codestream a n ∷ E.Codestream b m ∷ es)
-joinCode a n (E.AuxStart t c e ∷ es) = E.Codestream a n ∷ E.AuxStart t c e ∷ es
-joinCode a n (E.AuxData t b m ∷ es) = E.Codestream a n ∷ E.AuxData t b m ∷ es
-joinCode a n (E.AuxEnd t ∷ es) = E.Codestream a n ∷ E.AuxEnd t ∷ es
+-- a part of a codestream that starts at x
+abbrev pub codeAt : ℕ → Event → Bool
+codeAt x (E.Kind k) = false
+codeAt x E.NoMoreAux = false
+codeAt x (E.Codestream b m) = eqb x b
+codeAt x (E.AuxStart t c e) = false
+codeAt x (E.AuxData t b m) = false
+codeAt x (E.AuxEnd t) = false
 
-abbrev pub joinAux : ℕ → ℕ → ℕ → List Event → List Event
-joinAux u a n [] = E.AuxData u a n ∷ []
-joinAux u a n (E.Kind k ∷ es) = E.AuxData u a n ∷ E.Kind k ∷ es
-joinAux u a n (E.NoMoreAux ∷ es) = E.AuxData u a n ∷ E.NoMoreAux ∷ es
-joinAux u a n (E.Codestream b m ∷ es) = E.AuxData u a n ∷ E.Codestream b m ∷ es
-joinAux u a n (E.AuxStart t c e ∷ es) = E.AuxData u a n ∷ E.AuxStart t c e ∷ es
-joinAux u a n (E.AuxData t b m ∷ es) = if (and (eqb u t) (eqb (a + n) b)) (E.AuxData u a (n + m) ∷ es) (E.AuxData u a n ∷ E.AuxData t b m ∷ es)
-joinAux u a n (E.AuxEnd t ∷ es) = E.AuxData u a n ∷ E.AuxEnd t ∷ es
+-- a part of a side box of type t that starts at x
+abbrev pub auxAt : ℕ → ℕ → Event → Bool
+auxAt t x (E.Kind k) = false
+auxAt t x E.NoMoreAux = false
+auxAt t x (E.Codestream b m) = false
+auxAt t x (E.AuxStart u c e) = false
+auxAt t x (E.AuxData u b m) = and (eqb t u) (eqb x b)
+auxAt t x (E.AuxEnd u) = false
 
+-- two parts of one payload, the second where the first ends
+abbrev pub joins : Event → Event → Bool
+joins (E.Kind k) f = false
+joins E.NoMoreAux f = false
+joins (E.Codestream a n) f = codeAt (a + n) f
+joins (E.AuxStart t c e) f = false
+joins (E.AuxData t a n) f = auxAt t (a + n) f
+joins (E.AuxEnd t) f = false
+
+abbrev pub lengthOf : Event → ℕ
+lengthOf (E.Kind k) = 0
+lengthOf E.NoMoreAux = 0
+lengthOf (E.Codestream a n) = n
+lengthOf (E.AuxStart t c e) = 0
+lengthOf (E.AuxData t a n) = n
+lengthOf (E.AuxEnd t) = 0
+
+-- a part with m bytes more
+abbrev pub longer : ℕ → Event → Event
+longer m (E.Kind k) = E.Kind k
+longer m E.NoMoreAux = E.NoMoreAux
+longer m (E.Codestream a n) = E.Codestream a (n + m)
+longer m (E.AuxStart t c e) = E.AuxStart t c e
+longer m (E.AuxData t a n) = E.AuxData t a (n + m)
+longer m (E.AuxEnd t) = E.AuxEnd t
+
+-- an event joined before those that follow
 abbrev pub before : Event → List Event → List Event
-before (E.Kind k) es = E.Kind k ∷ es
-before E.NoMoreAux es = E.NoMoreAux ∷ es
-before (E.Codestream a n) es = joinCode a n es
-before (E.AuxStart t c e) es = E.AuxStart t c e ∷ es
-before (E.AuxData t a n) es = joinAux t a n es
-before (E.AuxEnd t) es = E.AuxEnd t ∷ es
+before e [] = e ∷ []
+before e (f ∷ es) = if (joins e f) (longer (lengthOf f) e ∷ es) (e ∷ f ∷ es)
 
 abbrev pub joined : List Event → List Event
 joined [] = []

@@ -1,3 +1,5 @@
 pub mod Grammar
 pub mod Joined
 pub mod Feeding
+pub mod Theorems
+pub mod Joiner

@@ -1,5 +1,208 @@
-// Whole files: what the grammar lists, and what feeding in packets gives.
-// The most events that `n` bytes in `k` packets can give.
-pub fn most_events(n: u64, k: u64) -> u64 {
-    n / 3
+// What users want of whole files: a joiner of payload parts, and how many events a queue must hold. The grammar of a whole
+// file and what feeding in packets gives stand in specs/, and the theorems on them in proofs/.
+use jxl_container::parse::Event;
+ghost use mathlib.Core.Path.{_≡_};
+ghost use Prim.Native.Nat.{_+_, _^_, _<_};
+ghost use lib.Dec.{eqb};
+ghost use Rattle.jxl_files.specs.Joined as Spec;
+ghost use Rattle.jxl_files.specs.Joiner.{adding, extends, mostEvents};
+
+// An event, or none.
+pub enum Held {
+    Nothing,
+    Waiting(Event),
+}
+
+// Joins payload parts that lie end to end. It takes events with places in the file, one at a time, and holds the newest.
+pub struct Joiner {
+    pub held: Held,
+}
+
+// What adding an event hands back, and the joiner then.
+pub struct Added {
+    pub out: Held,
+    pub next: Joiner,
+}
+
+// Whether `n` bytes at `a` end where `b` is.
+fn ends_at(a: usize, n: usize, b: usize) -> bool
+    ensures { λ r. ⌜ r ≡ eqb (a + n) b ⌝ }
+{
+    if b < a {
+        return false;
+    }
+    b - a == n
+}
+
+// Whether `event` is a part of a codestream that starts behind `n` bytes at `a`.
+fn code_at(a: usize, n: usize, event: Event) -> bool
+    ensures { λ r. ⌜ r ≡ Spec.codeAt (a + n) event ⌝ }
+{
+    match event {
+        Event::Codestream { at, len: _ } => ends_at(a, n, at),
+        Event::Kind(_) => false,
+        Event::NoMoreAux => false,
+        Event::AuxStart {
+            ty: _,
+            brotli: _,
+            to_end: _,
+        } => false,
+        Event::AuxData {
+            ty: _,
+            at: _,
+            len: _,
+        } => false,
+        Event::AuxEnd { ty: _ } => false,
+    }
+}
+
+// Whether `event` is a part of a side box of type `t` that starts behind `n` bytes at `a`.
+fn aux_at(t: u32, a: usize, n: usize, event: Event) -> bool
+    ensures { λ r. ⌜ r ≡ Spec.auxAt t (a + n) event ⌝ }
+{
+    match event {
+        Event::AuxData { ty, at, len: _ } => { if t == ty { ends_at(a, n, at) } else { false } }
+        Event::Kind(_) => false,
+        Event::NoMoreAux => false,
+        Event::Codestream { at: _, len: _ } => false,
+        Event::AuxStart {
+            ty: _,
+            brotli: _,
+            to_end: _,
+        } => false,
+        Event::AuxEnd { ty: _ } => false,
+    }
+}
+
+// Whether the two are parts of one payload, the second where the first ends.
+fn joins(first: Event, second: Event) -> bool
+    ensures { λ r. ⌜ r ≡ Spec.joins first second ⌝ }
+{
+    match first {
+        Event::Codestream { at, len } => code_at(at, len, second),
+        Event::AuxData { ty, at, len } => aux_at(ty, at, len, second),
+        Event::Kind(_) => false,
+        Event::NoMoreAux => false,
+        Event::AuxStart {
+            ty: _,
+            brotli: _,
+            to_end: _,
+        } => false,
+        Event::AuxEnd { ty: _ } => false,
+    }
+}
+
+// How many payload bytes the event shows.
+fn length_of(event: Event) -> usize
+    ensures { λ r. ⌜ r ≡ Spec.lengthOf event ⌝ }
+{
+    match event {
+        Event::Codestream { at: _, len } => len,
+        Event::AuxData { ty: _, at: _, len } => len,
+        Event::Kind(_) => 0,
+        Event::NoMoreAux => 0,
+        Event::AuxStart {
+            ty: _,
+            brotli: _,
+            to_end: _,
+        } => 0,
+        Event::AuxEnd { ty: _ } => 0,
+    }
+}
+
+// A part with `m` bytes more.
+fn longer(m: usize, event: Event) -> Event
+    requires { ⌜ Spec.lengthOf event + m < 2 ^ 64 ⌝ }
+    ensures { λ r. ⌜ r ≡ Spec.longer m event ⌝ }
+{
+    match event {
+        Event::Codestream { at, len } => Event::Codestream { at, len: len + m },
+        Event::AuxData { ty, at, len } => Event::AuxData {
+            ty,
+            at,
+            len: len + m,
+        },
+        Event::Kind(k) => Event::Kind(k),
+        Event::NoMoreAux => Event::NoMoreAux,
+        Event::AuxStart { ty, brotli, to_end } => Event::AuxStart { ty, brotli, to_end },
+        Event::AuxEnd { ty } => Event::AuxEnd { ty },
+    }
+}
+
+// Whether the two are one part, whose length fits.
+fn extends(first: Event, second: Event) -> bool
+    ensures { λ r. ⌜ r ≡ extends first second ⌝ }
+{
+    if joins(first, second) {
+        length_of(second) <= 0xffff_ffff_ffff_ffff - length_of(first)
+    } else {
+        false
+    }
+}
+
+// What adding `event` behind `held` does.
+fn put(held: Event, event: Event) -> Added
+    ensures { λ r. ⌜ r ≡ adding (Held.Waiting held) event ⌝ }
+{
+    if extends(held, event) {
+        Added {
+            out: Held::Nothing,
+            next: Joiner {
+                held: Held::Waiting(longer(length_of(event), held)),
+            },
+        }
+    } else {
+        Added {
+            out: Held::Waiting(held),
+            next: Joiner {
+                held: Held::Waiting(event),
+            },
+        }
+    }
+}
+
+impl Joiner {
+    // A joiner that holds nothing.
+    pub fn new() -> Self
+        ensures { λ r. ⌜ r .held ≡ Held.Nothing ⌝ }
+    {
+        Joiner {
+            held: Held::Nothing,
+        }
+    }
+
+    // Adds an event; hands back the one held, if it is now known to be whole.
+    pub fn add(self, event: Event) -> Added
+        ensures { λ r. ⌜ r ≡ adding (self .held) event ⌝ }
+    {
+        let held = self.held;
+        match held {
+            Held::Nothing => Added {
+                out: Held::Nothing,
+                next: Joiner {
+                    held: Held::Waiting(event),
+                },
+            },
+            Held::Waiting(first) => put(first, event),
+        }
+    }
+
+    // The event held, once no more will come.
+    pub fn finish(self) -> Held
+        ensures { λ r. ⌜ r ≡ self .held ⌝ }
+    {
+        self.held
+    }
+}
+
+// The most events that `n` bytes in `k` packets can give, for sizing a queue; the number saturates at 64 bits.
+pub fn most_events(n: u64, k: u64) -> u64
+    ensures { λ r. ⌜ r ≡ mostEvents n k ⌝ }
+{
+    let whole = n / 3 + 2;
+    if k <= 0xffff_ffff_ffff_ffff - whole {
+        whole + k
+    } else {
+        0xffff_ffff_ffff_ffff
+    }
 }

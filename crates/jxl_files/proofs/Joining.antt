@@ -1,0 +1,183 @@
+-- The joiner hands back the joined events.
+use mathlib.Core.Path.{_≡_, refl, sym, ap, _∙_}
+use mathlib.Core.Bool.{Bool, true, false}
+use mathlib.Core.List.{List, [], _∷_, _++_}
+use Prim.Native.Nat.{ℕ, _+_, _-_, _^_, _<_, _≤_, min}
+use native.Mathlib.Nat.{add-assoc}
+use native.Mathlib.Omega.{arith}
+use lib.Dec.{ltb, leb, eqb}
+use borrow.Author.Tests.{eq-eqb, ne-eqb, eqb-true, eqb-false, lt-ltb, le-ltb, le-leb, lt-leb, leb-true, leb-false}
+use Rattle.jxl_container.specs.Bytes.{if, and}
+use Rattle.jxl_container.specs.declared.parse.Event.{Event}
+use Rattle.jxl_container.specs.declared.parse.Event.the-variants as E
+use Rattle.jxl_files.specs.Joined.{codeAt, auxAt, joins, lengthOf, longer, before, joined}
+use Rattle.jxl_files.specs.Joiner.{adding, extends, handed, run}
+use Rattle.jxl_files.specs.declared.Held.{Held}
+use Rattle.jxl_files.specs.declared.Held.the-variants.{Nothing, Waiting}
+
+-- the tests of the code
+pub ends-below : (a n b : ℕ) → b < a → false ≡ eqb (a + n) b
+ends-below a n b h = sym (ne-eqb (a + n) b (λ e. omega arith))
+
+pub ends-there : (a n b : ℕ) → a ≤ b → eqb (b - a) n ≡ eqb (a + n) b
+ends-there a n b h = go (eqb (b - a) n) refl
+  where
+    go : (t : Bool) → eqb (b - a) n ≡ t → eqb (b - a) n ≡ eqb (a + n) b
+    go true e = e ∙ sym (eq-eqb (a + n) b (omega (arith, eqb-true (b - a) n e)))
+    go false e = e ∙ sym (ne-eqb (a + n) b (λ q. eqb-false (b - a) n e (omega arith)))
+
+pub room-for : (n m : ℕ) → n < 2 ^ 64 → leb m (18446744073709551615 - n) ≡ ltb (n + m) (2 ^ 64)
+room-for n m h = go (leb m (18446744073709551615 - n)) refl
+  where
+    go : (t : Bool) → leb m (18446744073709551615 - n) ≡ t → leb m (18446744073709551615 - n) ≡ ltb (n + m) (2 ^ 64)
+    go true e = e ∙ sym (lt-ltb (n + m) (2 ^ 64) (omega (arith, leb-true m (18446744073709551615 - n) e)))
+    go false e = e ∙ sym (le-ltb (n + m) (2 ^ 64) (omega (arith, leb-false m (18446744073709551615 - n) e)))
+
+never : {A : Type 0} → false ≡ true → A
+never e = absurd (let z : _≡_ {A = ℕ} 0 1 = cc in omega arith)
+
+and-first : (t u : Bool) → and t u ≡ true → t ≡ true
+and-first true u e = refl
+and-first false u e = e
+
+pub and-second : (t : Bool) {u : Bool} → and t u ≡ true → u ≡ true
+and-second true e = e
+and-second false e = never e
+
+-- a longer part starts where it did
+code-longer : (x m : ℕ) (e : Event) → codeAt x (longer m e) ≡ codeAt x e
+code-longer x m (E.Kind k) = refl
+code-longer x m E.NoMoreAux = refl
+code-longer x m (E.Codestream b n) = refl
+code-longer x m (E.AuxStart t c i) = refl
+code-longer x m (E.AuxData t b n) = refl
+code-longer x m (E.AuxEnd t) = refl
+
+aux-longer : (u x m : ℕ) (e : Event) → auxAt u x (longer m e) ≡ auxAt u x e
+aux-longer u x m (E.Kind k) = refl
+aux-longer u x m E.NoMoreAux = refl
+aux-longer u x m (E.Codestream b n) = refl
+aux-longer u x m (E.AuxStart t c i) = refl
+aux-longer u x m (E.AuxData t b n) = refl
+aux-longer u x m (E.AuxEnd t) = refl
+
+joins-longer : (h e : Event) (m : ℕ) → joins h (longer m e) ≡ joins h e
+joins-longer (E.Kind k) e m = refl
+joins-longer E.NoMoreAux e m = refl
+joins-longer (E.Codestream a n) e m = code-longer (a + n) m e
+joins-longer (E.AuxStart t c i) e m = refl
+joins-longer (E.AuxData t a n) e m = aux-longer t (a + n) m e
+joins-longer (E.AuxEnd t) e m = refl
+
+-- an event that the next does not join stays apart from it, however long that one grows
+keep-apart : (h e : Event) (es : List Event) → joins h e ≡ false → before h (before e es) ≡ h ∷ before e es
+keep-apart h e [] n = rw n
+keep-apart h e (f ∷ es) n = go (joins e f)
+  where
+    go : (t : Bool) → before h (if t (longer (lengthOf f) e ∷ es) (e ∷ f ∷ es)) ≡ h ∷ if t (longer (lengthOf f) e ∷ es) (e ∷ f ∷ es)
+    go true = rw (joins-longer h e (lengthOf f) ∙ n)
+    go false = rw n
+
+-- two parts that join go on as one
+module _ (a n m : ℕ) where
+  same-end : a + n + m ≡ a + (n + m)
+  same-end = add-assoc a n m
+
+  code-twice : (es : List Event) → before (E.Codestream a n) (before (E.Codestream (a + n) m) es) ≡ before (E.Codestream a (n + m)) es
+  code-twice [] = rw (eq-eqb (a + n) (a + n) refl)
+  code-twice (f ∷ es) = go (codeAt (a + n + m) f) refl
+    where
+      go : (t : Bool) → codeAt (a + n + m) f ≡ t → before (E.Codestream a n) (before (E.Codestream (a + n) m) (f ∷ es)) ≡ before (E.Codestream a (n + m)) (f ∷ es)
+      go true e = rw (e, ap (λ (x : ℕ). codeAt x f) (sym same-end) ∙ e, eq-eqb (a + n) (a + n) refl, add-assoc n m (lengthOf f))
+      go false e = rw (e, ap (λ (x : ℕ). codeAt x f) (sym same-end) ∙ e, eq-eqb (a + n) (a + n) refl)
+
+  aux-twice : (t : ℕ) (es : List Event) → before (E.AuxData t a n) (before (E.AuxData t (a + n) m) es) ≡ before (E.AuxData t a (n + m)) es
+  aux-twice t [] = rw (eq-eqb t t refl, eq-eqb (a + n) (a + n) refl)
+  aux-twice t (f ∷ es) = go (auxAt t (a + n + m) f) refl
+    where
+      go : (u : Bool) → auxAt t (a + n + m) f ≡ u → before (E.AuxData t a n) (before (E.AuxData t (a + n) m) (f ∷ es)) ≡ before (E.AuxData t a (n + m)) (f ∷ es)
+      go true e = rw (e, ap (λ (x : ℕ). auxAt t x f) (sym same-end) ∙ e, eq-eqb t t refl, eq-eqb (a + n) (a + n) refl, add-assoc n m (lengthOf f))
+      go false e = rw (e, ap (λ (x : ℕ). auxAt t x f) (sym same-end) ∙ e, eq-eqb t t refl, eq-eqb (a + n) (a + n) refl)
+
+join-twice : (h e : Event) (es : List Event) → joins h e ≡ true → before h (before e es) ≡ before (longer (lengthOf e) h) es
+join-twice (E.Kind k) e es j = never j
+join-twice E.NoMoreAux e es j = never j
+join-twice (E.Codestream a n) (E.Kind k) es j = never j
+join-twice (E.Codestream a n) E.NoMoreAux es j = never j
+join-twice (E.Codestream a n) (E.Codestream b m) es j =
+    ap (λ (x : ℕ). before (E.Codestream a n) (before (E.Codestream x m) es)) (sym (eqb-true (a + n) b j)) ∙ code-twice a n m es
+join-twice (E.Codestream a n) (E.AuxStart t c i) es j = never j
+join-twice (E.Codestream a n) (E.AuxData t b m) es j = never j
+join-twice (E.Codestream a n) (E.AuxEnd t) es j = never j
+join-twice (E.AuxStart t c i) e es j = never j
+join-twice (E.AuxData u a n) (E.Kind k) es j = never j
+join-twice (E.AuxData u a n) E.NoMoreAux es j = never j
+join-twice (E.AuxData u a n) (E.Codestream b m) es j = never j
+join-twice (E.AuxData u a n) (E.AuxStart t c i) es j = never j
+join-twice (E.AuxData u a n) (E.AuxData t b m) es j =
+    ap (λ (x : ℕ). before (E.AuxData u a n) (before (E.AuxData x b m) es)) (sym (eqb-true u t (and-first (eqb u t) (eqb (a + n) b) j)))
+    ∙ ap (λ (x : ℕ). before (E.AuxData u a n) (before (E.AuxData u x m) es)) (sym (eqb-true (a + n) b (and-second (eqb u t) j)))
+    ∙ aux-twice a n m u es
+join-twice (E.AuxData u a n) (E.AuxEnd t) es j = never j
+join-twice (E.AuxEnd t) e es j = never j
+
+-- the place behind an event's payload
+abbrev endOf : Event → ℕ
+endOf (E.Kind k) = 0
+endOf E.NoMoreAux = 0
+endOf (E.Codestream a n) = a + n
+endOf (E.AuxStart t c i) = 0
+endOf (E.AuxData t a n) = a + n
+endOf (E.AuxEnd t) = 0
+
+-- an event of a file that 64 bits can count
+abbrev pub Counted : Event → Type 0
+Counted e = endOf e < 2 ^ 64
+
+abbrev pub AllCounted : List Event → Type 0
+AllCounted [] = Unit {0}
+AllCounted (e ∷ es) = Counted e × AllCounted es
+
+-- a part made longer ends where the one it joins ends
+code-moves : (a n : ℕ) (e : Event) → codeAt (a + n) e ≡ true → (a + (n + lengthOf e) ≡ endOf e) × (n + lengthOf e ≤ endOf e)
+code-moves a n (E.Kind k) j = never j
+code-moves a n E.NoMoreAux j = never j
+code-moves a n (E.Codestream b m) j = (omega (arith, eqb-true (a + n) b j), omega (arith, eqb-true (a + n) b j))
+code-moves a n (E.AuxStart t c i) j = never j
+code-moves a n (E.AuxData t b m) j = never j
+code-moves a n (E.AuxEnd t) j = never j
+
+aux-moves : (u a n : ℕ) (e : Event) → auxAt u (a + n) e ≡ true → (a + (n + lengthOf e) ≡ endOf e) × (n + lengthOf e ≤ endOf e)
+aux-moves u a n (E.Kind k) j = never j
+aux-moves u a n E.NoMoreAux j = never j
+aux-moves u a n (E.Codestream b m) j = never j
+aux-moves u a n (E.AuxStart t c i) j = never j
+aux-moves u a n (E.AuxData t b m) j =
+    let ends = eqb-true (a + n) b (and-second (eqb u t) j) in
+    (omega arith, omega arith)
+aux-moves u a n (E.AuxEnd t) j = never j
+
+end-moves : (h e : Event) → joins h e ≡ true → (endOf (longer (lengthOf e) h) ≡ endOf e) × (lengthOf h + lengthOf e ≤ endOf e)
+end-moves (E.Kind k) e j = never j
+end-moves E.NoMoreAux e j = never j
+end-moves (E.Codestream a n) e j = code-moves a n e j
+end-moves (E.AuxStart t c i) e j = never j
+end-moves (E.AuxData t a n) e j = aux-moves t a n e j
+end-moves (E.AuxEnd t) e j = never j
+
+-- the joiner hands back the joined events, of a file that 64 bits can count
+run-joined : (h : Event) (es : List Event) → Counted h → AllCounted es → run (Waiting h) es ≡ before h (joined es)
+run-joined h [] c cs = refl
+run-joined h (e ∷ es) c (k, ks) = go (joins h e) refl (run-joined e es k ks) (λ w. run-joined (longer (lengthOf e) h) es w ks)
+  where
+    go : (t : Bool) → joins h e ≡ t → run (Waiting e) es ≡ before e (joined es)
+        → (Counted (longer (lengthOf e) h) → run (Waiting (longer (lengthOf e) h)) es ≡ before (longer (lengthOf e) h) (joined es))
+        → run (Waiting h) (e ∷ es) ≡ before h (before e (joined es))
+    go true j apart grown =
+        let ends = end-moves h e j in
+        rw (j, lt-ltb (lengthOf h + lengthOf e) (2 ^ 64) (omega (arith, ends .1))) (grown (omega (arith, ends .0)) ∙ sym (join-twice h e (joined es) j))
+    go false j apart grown = rw j (ap (λ (l : List Event). h ∷ l) apart ∙ sym (keep-apart h e (joined es) j))
+
+pub joiner-joins : (es : List Event) → AllCounted es → run Nothing es ≡ joined es
+joiner-joins [] c = refl
+joiner-joins (e ∷ es) (c, cs) = run-joined e es c cs

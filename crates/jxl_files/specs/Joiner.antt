@@ -1,0 +1,37 @@
+-- A joiner holds the newest event back, until the next one shows that it is whole; and how many events a queue must hold.
+use mathlib.Core.Bool.{Bool, true, false}
+use mathlib.Core.List.{List, [], _∷_, _++_}
+use Prim.Native.Nat.{ℕ, _+_, _-_, _/_, _^_, min}
+use lib.Dec.{ltb}
+use Rattle.jxl_container.specs.Bytes.{if, and}
+use Rattle.jxl_container.specs.declared.parse.Event.{Event}
+use Rattle.jxl_files.specs.Joined.{joins, lengthOf, longer}
+use Rattle.jxl_files.specs.declared.Held.{Held}
+use Rattle.jxl_files.specs.declared.Held.the-variants.{Nothing, Waiting}
+use Rattle.jxl_files.specs.declared.Joiner.{Joiner}
+use Rattle.jxl_files.specs.declared.Added.{Added}
+
+-- what is handed back, and what is held from then on
+abbrev pub added : Held → Held → Added
+added out held = record { out = out; next = record { held = held } }
+
+-- the part held and the next one are one part, whose length fits 64 bits
+abbrev pub extends : Event → Event → Bool
+extends h e = and (joins h e) (ltb (lengthOf h + lengthOf e) (2 ^ 64))
+
+abbrev pub adding : Held → Event → Added
+adding Nothing e = added Nothing (Waiting e)
+adding (Waiting h) e = if (extends h e) (added Nothing (Waiting (longer (lengthOf e) h))) (added (Waiting h) (Waiting e))
+
+abbrev pub handed : Held → List Event
+handed Nothing = []
+handed (Waiting e) = e ∷ []
+
+-- events put in one after the other, and the one held taken at the end
+abbrev pub run : Held → List Event → List Event
+run h [] = handed h
+run h (e ∷ es) = handed (adding h e .out) ++ run (adding h e .next .held) es
+
+-- n bytes in k packets give at most n / 3 + 2 + k events (`most events`); the number saturates at 64 bits
+abbrev pub mostEvents : ℕ → ℕ → ℕ
+mostEvents n k = min (n / 3 + 2 + k) (2 ^ 64 - 1)

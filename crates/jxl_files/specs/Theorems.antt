@@ -1,0 +1,80 @@
+-- Every file, every cut: what is proved of feeding, each statement a type that proofs/ has a proof of under the same name in small letters.
+use mathlib.Core.Path.{_≡_}
+use mathlib.Core.Bool.{Bool, true, false}
+use mathlib.Core.List.{List, [], _∷_}
+use Prim.Native.Nat.{ℕ, _+_, _/_, _≤_}
+use lib.ListN.{length}
+use Rattle.jxl_container.specs.Record.{fresh, isRefused}
+use Rattle.jxl_container.specs.Step.{payloadOf}
+use Rattle.jxl_container.specs.Laws.{Inside}
+use Rattle.jxl_container.specs.declared.ContainerParser.{ContainerParser}
+use Rattle.jxl_files.specs.Grammar.{Stop, want, Listing, file}
+use Rattle.jxl_files.specs.Joined.{joined}
+use Rattle.jxl_files.specs.Feeding.{Shown, Seen, events, taking, take, feeding, whole}
+
+-- what was seen, as a listing
+abbrev pub listing : Seen → Listing
+listing r = record { events = events r; consumed = r .consumed; stop = r .stop }
+
+-- every file: fed whole to a fresh parser it shows exactly the grammar's events, consumes what it says and stops as it says
+abbrev pub EveryFile : Type 0
+EveryFile = (s : List ℕ) → listing (feeding fresh 0 (s ∷ [])) ≡ file s
+
+-- with nothing to join: no two events of one feed lie end to end, from any record
+abbrev pub NothingToJoin : Type 0
+NothingToJoin = (p : ContainerParser) (at : ℕ) (s : List ℕ) → joined (events (take p at s)) ≡ events (take p at s)
+
+-- the events of `f`, joined, and what else it came to, are those of `t`
+pub record Agrees (f t : Seen) : Type 0 where
+  pub events-are : joined (events f) ≡ events t
+  pub consumed-is : f .consumed ≡ t .consumed
+  pub stop-is : f .stop ≡ t .stop
+  pub next-is : f .next ≡ t .next
+
+-- every cut: any packets, from any record that is not refused, come to what all their bytes come to, fed at once
+abbrev pub EveryCut : Type 0
+EveryCut = (p : ContainerParser) (at : ℕ) (xs : List (List ℕ)) → isRefused p ≡ false → Agrees (feeding p at xs) (feeding p at (whole xs ∷ []))
+
+-- and so, of a file cut in any packets, to what the grammar lists
+abbrev pub EveryCutOfAFile : Type 0
+EveryCutOfAFile =
+    (xs : List (List ℕ)) → (joined (events (feeding fresh 0 xs)) ≡ file (whole xs) .events)
+    × (feeding fresh 0 xs .consumed ≡ file (whole xs) .consumed) × (feeding fresh 0 xs .stop ≡ file (whole xs) .stop)
+
+-- the bytes shown are the file's at the event's place, and all of them are there
+pub record Right (file : List ℕ) (x : Shown) : Type 0 where
+  pub same : x .bytes ≡ payloadOf file (x .event)
+  pub inside : Inside (x .event) (length file)
+
+abbrev pub All : (Shown → Type 0) → List Shown → Type 0
+All P [] = Unit {0}
+All P (x ∷ xs) = P x × All P xs
+
+-- bytes shown: each payload shown is, byte for byte, the file at its place
+abbrev pub BytesShown : Type 0
+BytesShown = (p : ContainerParser) (xs : List (List ℕ)) → All (Right (whole xs)) (feeding p 0 xs .shown)
+
+-- most unread: unless refused, at most 15 bytes are left unread; of one feed from any record, of packets from any that is not refused
+abbrev pub MostUnread : Type 0
+MostUnread = (p : ContainerParser) (at : ℕ) (s : List ℕ) → take p at s .stop ≡ want → at + length s ≤ take p at s .consumed + 15
+
+abbrev pub MostUnreadOfPackets : Type 0
+MostUnreadOfPackets =
+    (p : ContainerParser) (at : ℕ) (xs : List (List ℕ)) → isRefused p ≡ false → feeding p at xs .stop ≡ want
+    → at + length (whole xs) ≤ feeding p at xs .consumed + 15
+
+-- most events: n bytes in k packets, one at least, give at most n / 3 + 2 + k events, from any record
+abbrev pub MostEvents : Type 0
+MostEvents =
+    (p : ContainerParser) (at : ℕ) (x : List ℕ) (xs : List (List ℕ))
+    → length (events (feeding p at (x ∷ xs))) ≤ length (whole (x ∷ xs)) / 3 + 2 + length (x ∷ xs)
+
+-- and at most k - 1 more than all their bytes fed at once
+abbrev pub AtMostMore : Type 0
+AtMostMore =
+    (p : ContainerParser) (at : ℕ) (x : List ℕ) (xs : List (List ℕ))
+    → length (events (feeding p at (x ∷ xs))) ≤ length (events (feeding p at (whole (x ∷ xs) ∷ []))) + length xs
+
+-- always ends: from any record, on any input; a third as many steps as bytes, and four, are enough
+abbrev pub AlwaysEnds : Type 0
+AlwaysEnds = (p : ContainerParser) (at : ℕ) (s : List ℕ) (turns : ℕ) → length s / 3 + 4 ≤ turns → taking turns p at s ≡ take p at s
