@@ -1,4 +1,6 @@
 // JPEG XL fields. `unpack_signed` stands here, as in the Rust's lib.rs.
+pub mod bitstream;
+
 ghost use mathlib.Core.Path.{_≡_};
 ghost use Rattle.jxl_bitstream.specs.UnpackSigned.{unpacked};
 
