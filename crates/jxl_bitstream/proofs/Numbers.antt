@@ -10,7 +10,7 @@ use lib.Bits.{bitAnd, and-mask}
 use lib.Dec.{lit<}
 use lib.Arith.{mod-mul}
 use lib.Pow.{shl-exact, shr-shr, field, mod-mod-pow}
-use Rattle.jxl_bitstream.specs.Bits.{number, bits, bit}
+use Rattle.jxl_bitstream.specs.Bits.{number, bits}
 
 -- every element is a byte
 abbrev pub Bytes : List ℕ → Type 0
@@ -56,23 +56,29 @@ five s h i =
     last : number (drop (i + 4) s) % 2 ^ 8 ≡ getD s (i + 4) 0
     last = omega (arith, step s h 1 (lit< tt) (i + 4) (i + 5) (omega arith))
 
--- up to 32 bits at any place within a byte lie in the five bytes from there
+-- a remainder keeps the bits below it
+pub cut : (x w j n : ℕ) → j + n ≤ w → x % 2 ^ w / 2 ^ j % 2 ^ n ≡ x / 2 ^ j % 2 ^ n
+cut x w j n h =
+    let all : w ≡ w - j + j = omega arith in
+    let few : w - j ≡ w - j - n + n = omega arith in
+    ap (λ (k : ℕ). x % 2 ^ k / 2 ^ j % 2 ^ n) all
+    ∙ ap (λ (y : ℕ). y % 2 ^ n) (field x (w - j) j)
+    ∙ ap (λ (k : ℕ). x / 2 ^ j % 2 ^ k % 2 ^ n) few
+    ∙ mod-mod-pow (x / 2 ^ j) (w - j - n) n
+
+-- bits at a place are bits of the bytes from there
+pub bits-from : (s : List ℕ) → Bytes s → (at n : ℕ) → number (drop (at / 8) s) / 2 ^ (at % 8) % 2 ^ n ≡ bits s at n
+unfolding bits
+bits-from s h at n =
+    let whole : 8 * (at / 8) + at % 8 ≡ at = omega arith in
+    ap (λ (y : ℕ). y / 2 ^ (at % 8) % 2 ^ n) (sym (number-drop s h (at / 8)))
+    ∙ ap (λ (y : ℕ). y % 2 ^ n) (shr-shr (number s) (8 * (at / 8)) (at % 8))
+    ∙ ap (λ (k : ℕ). number s / 2 ^ k % 2 ^ n) whole
+
+-- up to 32 of them lie in five bytes
 pub from-five : (s : List ℕ) → Bytes s → (at n : ℕ) → n ≤ 32
     → number (drop (at / 8) s) % 2 ^ 40 / 2 ^ (at % 8) % 2 ^ n ≡ bits s at n
-unfolding bits
-from-five s h at n small =
-    let j = at % 8 in
-    let x = number (drop (at / 8) s) in
-    let all : 40 ≡ 40 - j + j = omega arith in
-    let few : 40 - j ≡ 40 - j - n + n = omega arith in
-    let whole : 8 * (at / 8) + j ≡ at = omega arith in
-    ap (λ (k : ℕ). x % 2 ^ k / 2 ^ j % 2 ^ n) all
-    ∙ ap (λ (y : ℕ). y % 2 ^ n) (field x (40 - j) j)
-    ∙ ap (λ (k : ℕ). x / 2 ^ j % 2 ^ k % 2 ^ n) few
-    ∙ mod-mod-pow (x / 2 ^ j) (40 - j - n) n
-    ∙ ap (λ (y : ℕ). y / 2 ^ j % 2 ^ n) (sym (number-drop s h (at / 8)))
-    ∙ ap (λ (y : ℕ). y % 2 ^ n) (shr-shr (number s) (8 * (at / 8)) j)
-    ∙ ap (λ (k : ℕ). number s / 2 ^ k % 2 ^ n) whole
+from-five s h at n small = cut (number (drop (at / 8) s)) 40 (at % 8) n (omega arith) ∙ bits-from s h at n
 
 -- the mask of n ones
 pub one-at : (n : ℕ) → n ≤ 32 → 1 * 2 ^ n % 2 ^ 64 ≡ 2 ^ n

@@ -10,7 +10,7 @@ use borrow.Author.Tests.{ltb-false, leb-true}
 use lib.Dec.{ltb, leb}
 use lib.ListN.{length}
 use lib.Pow.{pow-pos}
-use Rattle.jxl_bitstream.specs.Answer.{Answer, gives, refuses}
+use Rattle.jxl_bitstream.specs.Answer.{Answer, Field, onward, gives, refuses}
 use Rattle.jxl_bitstream.specs.Refusals.{eof, width, long}
 use Rattle.jxl_bitstream.specs.Bits.{number, bits, end}
 use Rattle.jxl_bitstream.specs.Fields.{begin, part}
@@ -19,8 +19,14 @@ abbrev Absurd : Type 0
 Absurd = _≡_ {A = ℕ} 0 1
 
 -- a value and a refusal are not the same answer
-differ : {A : Type 0} {a : A} {p r q : ℕ} {t : List ℕ} {B : Type 0} → gives a p ≡ refuses r t q → B
+pub differ : {A : Type 0} {a : A} {p r q : ℕ} {t : List ℕ} {B : Type 0} → gives a p ≡ refuses r t q → B
 differ h = let z : Absurd = cc in absurd (omega arith)
+
+-- a sequence gives a value only where its first part gives one
+pub gave : {A B : Type 0} (s : List ℕ) (b : Answer B) (next : B → Field A) (v : A) (p : ℕ) → onward s b next ≡ gives v p
+    → (x : B) × (q : ℕ) × (b ≡ gives x q) × (next x s q ≡ gives v p)
+gave s (gives x q) next v p h = (x, q, refl, h)
+gave s (refuses r t q) next v p h = differ (sym h)
 
 pub record Begun (wide : Bool) (s : List ℕ) (at p : ℕ) : Type 0 where
   pub short : length s ≤ 2 ^ 61 - 1

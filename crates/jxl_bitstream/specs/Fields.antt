@@ -118,7 +118,7 @@ member v [] = false
 member v (x ∷ xs) = eqb x v || member v xs
 
 unfoldable pub enumOf : List ℕ → Field ℕ
-enumOf list = begin false >>= λ _. select four >>= λ v. cond (member v list) (done v) (refuse enum (v ∷ []))
+enumOf list = u32 four >>= λ v. cond (member v list) (done v) (refuse enum (v ∷ []))
 
 -- F16: exponent 31 is refusal 5, the reader after 16 bits; else the f32 with those bits.
 unfoldable pub half : ℕ → Field Float

@@ -396,17 +396,14 @@ fn listed(list: &[u32], v: u32) -> bool
 pub fn read_enum(s: &[u8], at: usize, list: &[u32]) -> ReadU32
     ensures { λ r. ⌜ toldU32 r ≡ F.enumOf (now (list .entry)) (now (s .entry)) at ⌝ }
 {
-    let Moved::To(p) = begin(s, at, false) else {
-        return ReadU32::Refused(Refusal::TooLong, at);
-    };
     let d = [
         U32Specifier::Constant(0),
         U32Specifier::Constant(1),
         U32Specifier::BitsOffset(2, 4),
         U32Specifier::BitsOffset(18, 6),
     ];
-    match select(s, p, d) {
-        ReadU32::Refused(refusal, q) => ReadU32::Refused(refusal, q),
+    match read_u32(s, at, d) {
+        ReadU32::Refused(refusal, p) => ReadU32::Refused(refusal, p),
         ReadU32::Value(v, next) => {
             if listed(list, v) {
                 ReadU32::Value(v, next)
