@@ -1,8 +1,8 @@
 -- A U32's four choices: where none asks over 32 bits, the chosen one does not.
 -- Assumes nothing.
-use mathlib.Core.Path.{_≡_, refl}
 use mathlib.Core.Bool.{Bool, true, false, _||_}
 use mathlib.Core.List.{List}
+use mathlib.Core.Path.{_≡_, refl}
 use Prim.Native.Nat.{ℕ, zero, suc, _<_}
 use native.Mathlib.Omega.{arith}
 use Rattle.jxl_bitstream.specs.Fields.{anyWide, wide, chosen}

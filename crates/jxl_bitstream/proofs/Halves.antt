@@ -1,8 +1,8 @@
 -- F16. The float arithmetic of the subnormals gives the bits that the rule says: one test over all 1,024 mantissas.
 -- And the bits of each code are exactly the paper's number of units of 2^-24 with its sign: the same test, and a law where the exponent is not 0.
 -- Assumes nothing.
-use mathlib.Core.Path.{_≡_, refl, sym, ap, _∙_, subst}
 use mathlib.Core.Bool.{Bool, true, false, not, _&&_, Bool·beq}
+use mathlib.Core.Path.{_≡_, refl, sym, ap, _∙_}
 use Prim.Native.Nat.{ℕ, zero, suc, _+_, _*_, _/_, _%_, _^_, _<_}
 use native.Mathlib.Nat.{not-suc-le-zero, mul-assoc, mul-comm, mul-left-comm, mul-right-comm, eq-of-mul-eq-mul-right}
 use native.Mathlib.Numerals.{add-one}
@@ -10,12 +10,12 @@ use native.Mathlib.Omega.{arith}
 use borrow.Author.Count.{below-more}
 use borrow.Author.Tests.{lt-leb, le-leb, ne-eqb}
 use lib.Dec.{T, leb, eqb, eqb→eq, lit<}
-use lib.IntN.{pos}
-use lib.Pow.{pow-add}
-use lib.Ieee.{Float, nan, inf, fin, up, down, binary32, mul, div, neg, ofInt, ofBits, odd, ofFields, toBits, fits, nanBits}
 use lib.Ieee.Bits.{ofBits-toBits}
 use lib.Ieee.Exact.{HasValue, odd-sign}
 use lib.Ieee.Fits.{and-l, and-r, mul-fits, neg-fits}
+use lib.Ieee.{Float, nan, inf, fin, up, down, binary32, mul, div, neg, ofInt, ofBits, odd, ofFields, toBits, fits, nanBits}
+use lib.IntN.{pos}
+use lib.Pow.{pow-add}
 use Rattle.jxl_bitstream.specs.Half.{sign, exponent, mantissa, units, magnitude, pattern}
 
 -- ---- a test at every number below n

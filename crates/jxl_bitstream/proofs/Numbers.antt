@@ -1,14 +1,14 @@
 -- The buffer as one number: its parts, and the five bytes in which any 32 bits lie.
 -- Assumes nothing.
-use mathlib.Core.Path.{_≡_, refl, sym, ap, _∙_}
 use mathlib.Core.List.{List, [], _∷_}
+use mathlib.Core.Path.{_≡_, refl, sym, ap, _∙_}
 use Prim.Native.Nat.{ℕ, zero, suc, _+_, _-_, _*_, _/_, _%_, _^_, _≤_, _<_}
 use native.Mathlib.Nat.{zero-div, div-one, one-mul}
 use native.Mathlib.Omega.{arith}
-use lib.ListN.{getD, drop}
+use lib.Arith.{mod-mul}
 use lib.Bits.{bitAnd, and-mask}
 use lib.Dec.{lit<}
-use lib.Arith.{mod-mul}
+use lib.ListN.{getD, drop}
 use lib.Pow.{shl-exact, shr-shr, field, mod-mod-pow}
 use Rattle.jxl_bitstream.specs.Bits.{number, bits}
 

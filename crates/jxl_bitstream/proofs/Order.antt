@@ -1,11 +1,10 @@
 -- `bits` is document 01's order: lowest first within a byte, and the first bit read is the lowest of the value.
 -- And reading n then m bits is reading n + m.
 -- Assumes nothing.
-use mathlib.Core.Path.{_≡_, sym, ap, _∙_}
 use mathlib.Core.List.{List}
+use mathlib.Core.Path.{_≡_, sym, ap, _∙_}
 use Prim.Native.Nat.{ℕ, suc, _+_, _*_, _/_, _%_, _^_}
 use native.Mathlib.Nat.{add-comm, mod-one}
-use native.Mathlib.Numerals.{add-one}
 use native.Mathlib.Omega.{arith}
 use lib.ListN.{getD, drop}
 use lib.Pow.{shr-shr, mod-pow-add}

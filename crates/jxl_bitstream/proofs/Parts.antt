@@ -1,9 +1,9 @@
 -- What a caller may know of a part, and of the beginning of every call, by how it was answered.
 -- Assumes nothing.
-use mathlib.Core.Path.{_≡_, refl, sym, _∙_}
 use mathlib.Core.Bool.{Bool, true, false, cond}
 use mathlib.Core.List.{List, []}
-use Prim.Native.Nat.{ℕ, _+_, _-_, _*_, _/_, _%_, _^_, _≤_, _<_, min}
+use mathlib.Core.Path.{_≡_, refl, sym}
+use Prim.Native.Nat.{ℕ, _+_, _-_, _/_, _^_, _≤_, _<_, min}
 use native.Mathlib.Nat.{mod-lt}
 use native.Mathlib.Omega.{arith}
 use borrow.Author.Tests.{ltb-false, leb-true}
@@ -11,9 +11,9 @@ use lib.Dec.{ltb, leb}
 use lib.ListN.{length}
 use lib.Pow.{pow-pos}
 use Rattle.jxl_bitstream.specs.Answer.{Answer, Field, onward, gives, refuses}
-use Rattle.jxl_bitstream.specs.Refusals.{eof, width, long}
 use Rattle.jxl_bitstream.specs.Bits.{number, bits, end}
 use Rattle.jxl_bitstream.specs.Fields.{begin, part}
+use Rattle.jxl_bitstream.specs.Refusals.{eof, width, long}
 
 abbrev Absurd : Type 0
 Absurd = _≡_ {A = ℕ} 0 1

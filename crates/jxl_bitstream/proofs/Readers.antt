@@ -1,9 +1,9 @@
 -- Laws of the readers that callers lean on: when a read gives a value, and which; reading n then m bits is reading n + m bits;
 -- and a peek and then a consume is a read.
 -- Assumes nothing.
-use mathlib.Core.Path.{_≡_, refl, sym, ap, _∙_}
 use mathlib.Core.Bool.{Bool, true, false}
-use mathlib.Core.List.{List, []}
+use mathlib.Core.List.{List}
+use mathlib.Core.Path.{_≡_, refl, sym, ap, _∙_}
 use Prim.Native.Nat.{ℕ, _+_, _-_, _*_, _^_, _≤_, min}
 use native.Mathlib.Nat.{min-eq-left}
 use native.Mathlib.Omega.{arith}
@@ -13,8 +13,8 @@ use lib.ListN.{length}
 use Rattle.jxl_bitstream.specs.Answer.{Answer, gives, refuses, _>>=_, done}
 use Rattle.jxl_bitstream.specs.Bits.{bits, end}
 use Rattle.jxl_bitstream.specs.Fields.{over, begin, part, read, peek, consume, move}
-use Rattle.jxl_bitstream.proofs.Parts.{Begun, begun, given, gave}
 use Rattle.jxl_bitstream.proofs.Order.{together}
+use Rattle.jxl_bitstream.proofs.Parts.{begun, given, gave}
 
 -- where a call starts to read
 abbrev pub start : List ℕ → ℕ → ℕ

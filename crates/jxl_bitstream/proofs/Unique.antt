@@ -1,28 +1,27 @@
 -- Each promise determines its answer: two answers that meet it are equal, since what document 01 calls an answer says which it is.
 -- Assumes nothing.
-use mathlib.Core.Path.{_≡_, refl, sym, ap, _∙_}
-use mathlib.Core.Bool.{Bool, cond}
+use mathlib.Core.Bool.{cond}
 use mathlib.Core.List.{List}
+use mathlib.Core.Path.{_≡_, refl, sym, ap, _∙_}
 use Prim.Native.Nat.{ℕ}
 use lib.Dec.{eqb}
-use lib.Ieee.{Float}
 use lib.ListN.{getD}
 use Rattle.jxl_bitstream.specs.Answer.{Answer, gives, refuses}
+use Rattle.jxl_bitstream.specs.Fields as F
 use Rattle.jxl_bitstream.specs.Refusals.{eof, padding, float, enum, width, numbered, tells}
 use Rattle.jxl_bitstream.specs.Told.{toldU32, toldU64, toldBool, toldMoved, toldF16}
-use Rattle.jxl_bitstream.specs.Fields as F
-use Rattle.jxl_bitstream.specs.declared.bitstream.Refusal.{Refusal}
-use Rattle.jxl_bitstream.specs.declared.bitstream.Refusal.the-variants.{UnexpectedEof, NonZeroPadding, InvalidFloat, InvalidEnum, Width, TooLong}
-use Rattle.jxl_bitstream.specs.declared.bitstream.ReadU32.{ReadU32}
-use Rattle.jxl_bitstream.specs.declared.bitstream.ReadU32.the-variants as U32
-use Rattle.jxl_bitstream.specs.declared.bitstream.ReadU64.{ReadU64}
-use Rattle.jxl_bitstream.specs.declared.bitstream.ReadU64.the-variants as U64
-use Rattle.jxl_bitstream.specs.declared.bitstream.ReadBool.{ReadBool}
-use Rattle.jxl_bitstream.specs.declared.bitstream.ReadBool.the-variants as B
-use Rattle.jxl_bitstream.specs.declared.bitstream.ReadF16.{ReadF16}
-use Rattle.jxl_bitstream.specs.declared.bitstream.ReadF16.the-variants as H
-use Rattle.jxl_bitstream.specs.declared.bitstream.Moved.{Moved}
 use Rattle.jxl_bitstream.specs.declared.bitstream.Moved.the-variants as M
+use Rattle.jxl_bitstream.specs.declared.bitstream.Moved.{Moved}
+use Rattle.jxl_bitstream.specs.declared.bitstream.ReadBool.the-variants as B
+use Rattle.jxl_bitstream.specs.declared.bitstream.ReadBool.{ReadBool}
+use Rattle.jxl_bitstream.specs.declared.bitstream.ReadF16.the-variants as H
+use Rattle.jxl_bitstream.specs.declared.bitstream.ReadF16.{ReadF16}
+use Rattle.jxl_bitstream.specs.declared.bitstream.ReadU32.the-variants as U32
+use Rattle.jxl_bitstream.specs.declared.bitstream.ReadU32.{ReadU32}
+use Rattle.jxl_bitstream.specs.declared.bitstream.ReadU64.the-variants as U64
+use Rattle.jxl_bitstream.specs.declared.bitstream.ReadU64.{ReadU64}
+use Rattle.jxl_bitstream.specs.declared.bitstream.Refusal.the-variants.{UnexpectedEof, NonZeroPadding, InvalidFloat, InvalidEnum, Width, TooLong}
+use Rattle.jxl_bitstream.specs.declared.bitstream.Refusal.{Refusal}
 use Rattle.jxl_bitstream.specs.declared.bitstream.U32Specifier.{U32Specifier}
 
 -- what is told can be read back, so it is told of one answer only

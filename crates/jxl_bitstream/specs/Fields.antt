@@ -3,14 +3,14 @@ use mathlib.Core.Bool.{Bool, true, false, cond, _||_}
 use mathlib.Core.List.{List, [], _∷_}
 use Prim.Native.Nat.{ℕ, _+_, _-_, _*_, _%_, _^_, min}
 use lib.Dec.{ltb, leb, eqb}
-use lib.ListN.{length, getD}
 use lib.Ieee.{Float, binary32, ofBits}
-use Rattle.jxl_bitstream.specs.Answer.{Answer, Field, gives, refuses, _>>=_, done, refuse}
+use lib.ListN.{length, getD}
+use Rattle.jxl_bitstream.specs.Answer.{Field, gives, refuses, _>>=_, done, refuse}
 use Rattle.jxl_bitstream.specs.Bits.{bits, end}
 use Rattle.jxl_bitstream.specs.Half.{exponent, pattern}
 use Rattle.jxl_bitstream.specs.Refusals.{eof, padding, float, enum, width, long}
-use Rattle.jxl_bitstream.specs.declared.bitstream.U32Specifier.{U32Specifier}
 use Rattle.jxl_bitstream.specs.declared.bitstream.U32Specifier.the-variants.{Constant, BitsOffset}
+use Rattle.jxl_bitstream.specs.declared.bitstream.U32Specifier.{U32Specifier}
 
 -- Order for fields: 8, 7, then the reading. A position beyond the end is moved to the end first, unless 8 or 7 is given.
 unfoldable pub begin : Bool → Field (Unit {0})

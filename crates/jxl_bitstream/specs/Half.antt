@@ -1,5 +1,5 @@
 -- F16: sign s, exponent e, mantissa m, and the f32 that is the same number.
-use mathlib.Core.Bool.{Bool, cond}
+use mathlib.Core.Bool.{cond}
 use Prim.Native.Nat.{ℕ, zero, suc, _+_, _-_, _*_, _/_, _%_, _^_}
 use lib.Dec.{eqb}
 use lib.Ieee.{size}

@@ -1,8 +1,8 @@
 -- Numbers of the refusals.
 use mathlib.Core.List.{List, [], _∷_}
 use Prim.Native.Nat.{ℕ}
-use Rattle.jxl_bitstream.specs.declared.bitstream.Refusal.{Refusal}
 use Rattle.jxl_bitstream.specs.declared.bitstream.Refusal.the-variants.{UnexpectedEof, NonZeroPadding, InvalidFloat, InvalidEnum, Width, TooLong}
+use Rattle.jxl_bitstream.specs.declared.bitstream.Refusal.{Refusal}
 
 abbrev pub eof : ℕ
 eof = 3

@@ -5,16 +5,16 @@ use Prim.Native.Nat.{ℕ}
 use lib.Ieee.{Float}
 use Rattle.jxl_bitstream.specs.Answer.{Answer, gives, refuses}
 use Rattle.jxl_bitstream.specs.Refusals.{numbered, tells, eof, float, long}
-use Rattle.jxl_bitstream.specs.declared.bitstream.ReadU32.{ReadU32}
-use Rattle.jxl_bitstream.specs.declared.bitstream.ReadU32.the-variants as U32
-use Rattle.jxl_bitstream.specs.declared.bitstream.ReadU64.{ReadU64}
-use Rattle.jxl_bitstream.specs.declared.bitstream.ReadU64.the-variants as U64
-use Rattle.jxl_bitstream.specs.declared.bitstream.ReadBool.{ReadBool}
-use Rattle.jxl_bitstream.specs.declared.bitstream.ReadBool.the-variants as B
-use Rattle.jxl_bitstream.specs.declared.bitstream.ReadF16.{ReadF16}
-use Rattle.jxl_bitstream.specs.declared.bitstream.ReadF16.the-variants as F
-use Rattle.jxl_bitstream.specs.declared.bitstream.Moved.{Moved}
 use Rattle.jxl_bitstream.specs.declared.bitstream.Moved.the-variants as M
+use Rattle.jxl_bitstream.specs.declared.bitstream.Moved.{Moved}
+use Rattle.jxl_bitstream.specs.declared.bitstream.ReadBool.the-variants as B
+use Rattle.jxl_bitstream.specs.declared.bitstream.ReadBool.{ReadBool}
+use Rattle.jxl_bitstream.specs.declared.bitstream.ReadF16.the-variants as F
+use Rattle.jxl_bitstream.specs.declared.bitstream.ReadF16.{ReadF16}
+use Rattle.jxl_bitstream.specs.declared.bitstream.ReadU32.the-variants as U32
+use Rattle.jxl_bitstream.specs.declared.bitstream.ReadU32.{ReadU32}
+use Rattle.jxl_bitstream.specs.declared.bitstream.ReadU64.the-variants as U64
+use Rattle.jxl_bitstream.specs.declared.bitstream.ReadU64.{ReadU64}
 
 abbrev pub toldU32 : ReadU32 → Answer ℕ
 toldU32 (U32.Value v at) = gives v at

@@ -1,11 +1,11 @@
 // The fields, read from a lent slice at a bit position that goes in and comes back by value. The rules are in `specs/Fields.antt`.
 ghost use mathlib.Core.Path.{_≡_};
 ghost use mathlib.Core.Bool.{false};
-ghost use Prim.Native.Nat.{_+_, _-_, _*_, _/_, _%_, _^_, _≤_, _<_};
+ghost use Prim.Native.Nat.{_+_, _*_, _%_, _^_, _<_};
 ghost use lib.Ieee.{binary32, ofBits};
-ghost use lib.ListN.{length, getD, drop};
-ghost use Rattle.jxl_bitstream.specs.Bits.{number, bits, end};
-ghost use Rattle.jxl_bitstream.specs.Half.{exponent, mantissa, magnitude, pattern};
+ghost use lib.ListN.{getD, drop};
+ghost use Rattle.jxl_bitstream.specs.Bits.{number, bits};
+ghost use Rattle.jxl_bitstream.specs.Half.{exponent, magnitude, pattern};
 ghost use Rattle.jxl_bitstream.specs.Fields as F;
 ghost use Rattle.jxl_bitstream.specs.Ready.{Ready};
 ghost use Rattle.jxl_bitstream.specs.Told.{toldU32, toldU64, toldBool, toldF16, toldMoved};

@@ -1,8 +1,8 @@
 -- `begin` meets its contract: the tests that led to each return say which case of the rule holds.
 -- Assumes nothing.
+use native.Mathlib.Nat.{le-of-lt, min-eq-left, min-eq-right}
 use borrow.Author.Needs.{needs}
 use borrow.Author.Tests.{lt-ltb, le-ltb}
-use native.Mathlib.Nat.{le-of-lt, min-eq-left, min-eq-right}
 use Rattle.jxl_bitstream.specs.Fields.{begin}
 use Rattle.jxl_bitstream.proofs.bitstream.begin.Statement.{statement}
 use Rattle.jxl_bitstream.proofs.bitstream.begin.Tie as tie

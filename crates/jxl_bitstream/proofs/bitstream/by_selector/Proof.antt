@@ -1,11 +1,11 @@
 -- `by_selector` meets its contract: the arm says the selector, and each part is answered as the rule has it.
 -- Assumes nothing.
-use borrow.Author.Needs.{needs}
-use Rattle.jxl_bitstream.proofs.Parts.{given, short}
-use Rattle.jxl_bitstream.specs.Told.{toldU32}
-use borrow.Author.Tests.{ne-eqb}
-use Prim.Native.Nat.{zero-le}
 use mathlib.Core.Path.{_∙_, ap, sym}
+use Prim.Native.Nat.{zero-le}
+use borrow.Author.Needs.{needs}
+use borrow.Author.Tests.{ne-eqb}
+use Rattle.jxl_bitstream.specs.Told.{toldU32}
+use Rattle.jxl_bitstream.proofs.Parts.{given, short}
 use Rattle.jxl_bitstream.proofs.bitstream.by_selector.Statement.{statement}
 use Rattle.jxl_bitstream.proofs.bitstream.by_selector.Tie as tie
 

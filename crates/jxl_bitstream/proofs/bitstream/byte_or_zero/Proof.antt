@@ -1,7 +1,7 @@
 -- `byte_or_zero` meets its contract: beyond the end the list has 0.
 -- Assumes nothing.
-use borrow.Author.Needs.{needs}
 use mathlib.Core.Path.{sym}
+use borrow.Author.Needs.{needs}
 use lib.ListN.{List·getD-eq-default}
 use Rattle.jxl_bitstream.proofs.bitstream.byte_or_zero.Statement.{statement}
 use Rattle.jxl_bitstream.proofs.bitstream.byte_or_zero.Tie as tie

@@ -1,11 +1,11 @@
 -- `choice` meets its contract: by the choice, whose width is at most 32.
 -- Assumes nothing.
-use borrow.Author.Needs.{needs}
-use Rattle.jxl_bitstream.proofs.Parts.{short}
-use Rattle.jxl_bitstream.specs.Fields.{wide}
-use borrow.Author.Tests.{ltb-false}
-use Rattle.jxl_bitstream.specs.Told.{toldU32}
 use mathlib.Core.Path.{_∙_, ap, sym}
+use borrow.Author.Needs.{needs}
+use borrow.Author.Tests.{ltb-false}
+use Rattle.jxl_bitstream.specs.Fields.{wide}
+use Rattle.jxl_bitstream.specs.Told.{toldU32}
+use Rattle.jxl_bitstream.proofs.Parts.{short}
 use Rattle.jxl_bitstream.proofs.bitstream.choice.Statement.{statement}
 use Rattle.jxl_bitstream.proofs.bitstream.choice.Tie as tie
 

@@ -1,14 +1,14 @@
 -- `last_chunk` meets its contract: each part is answered as the rule has it, and the 4 bits lie above the 60.
 -- Assumes nothing.
-use borrow.Author.Needs.{needs}
-use Rattle.jxl_bitstream.proofs.Parts.{given, short}
-use Rattle.jxl_bitstream.proofs.Chunks.{no-flag, stop, no-last, last, placed}
-use Rattle.jxl_bitstream.specs.Answer.{gives}
-use lib.Dec.{lit≤}
-use Prim.Native.Nat.{ℕ}
 use mathlib.Core.List.{[]}
-use Rattle.jxl_bitstream.specs.Told.{toldU32}
 use mathlib.Core.Path.{_∙_, ap, sym}
+use Prim.Native.Nat.{ℕ}
+use borrow.Author.Needs.{needs}
+use lib.Dec.{lit≤}
+use Rattle.jxl_bitstream.specs.Answer.{gives}
+use Rattle.jxl_bitstream.specs.Told.{toldU32}
+use Rattle.jxl_bitstream.proofs.Chunks.{no-flag, stop, no-last, last, placed}
+use Rattle.jxl_bitstream.proofs.Parts.{given, short}
 use Rattle.jxl_bitstream.proofs.bitstream.last_chunk.Statement.{statement}
 use Rattle.jxl_bitstream.proofs.bitstream.last_chunk.Tie as tie
 

@@ -1,11 +1,11 @@
 -- `look` meets its contract: the bits lie in the five bytes, and the mask leaves n of them.
 -- Assumes nothing.
-use borrow.Author.Needs.{needs}
-use Rattle.jxl_bitstream.proofs.Numbers.{from-five, masked, one-at}
-use lib.Pow.{pow-pos, pow-mono}
-use native.Mathlib.Nat.{lt-of-lt-of-le, mod-lt}
-use Prim.Native.Nat.{ℕ, _/_, _%_, _^_}
 use mathlib.Core.Path.{_∙_, ap}
+use Prim.Native.Nat.{ℕ, _/_, _%_, _^_}
+use native.Mathlib.Nat.{lt-of-lt-of-le, mod-lt}
+use borrow.Author.Needs.{needs}
+use lib.Pow.{pow-pos, pow-mono}
+use Rattle.jxl_bitstream.proofs.Numbers.{from-five, masked, one-at}
 use Rattle.jxl_bitstream.proofs.bitstream.look.Statement.{statement}
 use Rattle.jxl_bitstream.proofs.bitstream.look.Tie as tie
 

@@ -1,8 +1,8 @@
 -- `over` meets its contract: by the choice.
 -- Assumes nothing.
+use mathlib.Core.Path.{ap, sym}
 use borrow.Author.Needs.{needs}
 use Rattle.jxl_bitstream.specs.Fields.{wide}
-use mathlib.Core.Path.{ap, sym}
 use Rattle.jxl_bitstream.proofs.bitstream.over.Statement.{statement}
 use Rattle.jxl_bitstream.proofs.bitstream.over.Tie as tie
 

@@ -1,11 +1,11 @@
 -- `part` meets its contract: the test says whether the bits are there.
 -- Assumes nothing.
-use borrow.Author.Needs.{needs}
-use Rattle.jxl_bitstream.specs.Fields.{part}
-use Rattle.jxl_bitstream.specs.Bits.{end}
-use borrow.Author.Tests.{le-leb, lt-leb}
-use native.Mathlib.Omega.{arith}
 use Prim.Native.Nat.{_+_}
+use native.Mathlib.Omega.{arith}
+use borrow.Author.Needs.{needs}
+use borrow.Author.Tests.{le-leb, lt-leb}
+use Rattle.jxl_bitstream.specs.Bits.{end}
+use Rattle.jxl_bitstream.specs.Fields.{part}
 use Rattle.jxl_bitstream.proofs.bitstream.part.Statement.{statement}
 use Rattle.jxl_bitstream.proofs.bitstream.part.Tie as tie
 

@@ -1,11 +1,11 @@
 -- `peek_bits` meets its contract: the beginning, then the bits.
 -- Assumes nothing.
-use borrow.Author.Needs.{needs}
-use Rattle.jxl_bitstream.proofs.Parts.{begun}
-use Rattle.jxl_bitstream.specs.Fields.{over, peek}
-use borrow.Author.Tests.{ltb-false}
-use Rattle.jxl_bitstream.specs.Told.{toldMoved}
 use mathlib.Core.Path.{_∙_, ap, sym}
+use borrow.Author.Needs.{needs}
+use borrow.Author.Tests.{ltb-false}
+use Rattle.jxl_bitstream.specs.Fields.{over, peek}
+use Rattle.jxl_bitstream.specs.Told.{toldMoved}
+use Rattle.jxl_bitstream.proofs.Parts.{begun}
 use Rattle.jxl_bitstream.proofs.bitstream.peek_bits.Statement.{statement}
 use Rattle.jxl_bitstream.proofs.bitstream.peek_bits.Tie as tie
 

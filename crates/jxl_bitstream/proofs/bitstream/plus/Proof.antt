@@ -1,9 +1,9 @@
 -- `plus` meets its contract: the part is answered as the rule has it.
 -- Assumes nothing.
-use borrow.Author.Needs.{needs}
-use Rattle.jxl_bitstream.proofs.Parts.{short}
-use Rattle.jxl_bitstream.specs.Told.{toldU32}
 use mathlib.Core.Path.{_∙_, ap, sym}
+use borrow.Author.Needs.{needs}
+use Rattle.jxl_bitstream.specs.Told.{toldU32}
+use Rattle.jxl_bitstream.proofs.Parts.{short}
 use Rattle.jxl_bitstream.proofs.bitstream.plus.Statement.{statement}
 use Rattle.jxl_bitstream.proofs.bitstream.plus.Tie as tie
 

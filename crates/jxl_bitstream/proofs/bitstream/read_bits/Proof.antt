@@ -1,11 +1,11 @@
 -- `read_bits` meets its contract: the beginning, then the part.
 -- Assumes nothing.
-use borrow.Author.Needs.{needs}
-use Rattle.jxl_bitstream.proofs.Parts.{begun}
-use Rattle.jxl_bitstream.specs.Fields.{over, read}
-use borrow.Author.Tests.{ltb-false}
-use Rattle.jxl_bitstream.specs.Told.{toldMoved}
 use mathlib.Core.Path.{_∙_, ap, sym}
+use borrow.Author.Needs.{needs}
+use borrow.Author.Tests.{ltb-false}
+use Rattle.jxl_bitstream.specs.Fields.{over, read}
+use Rattle.jxl_bitstream.specs.Told.{toldMoved}
+use Rattle.jxl_bitstream.proofs.Parts.{begun}
 use Rattle.jxl_bitstream.proofs.bitstream.read_bits.Statement.{statement}
 use Rattle.jxl_bitstream.proofs.bitstream.read_bits.Tie as tie
 

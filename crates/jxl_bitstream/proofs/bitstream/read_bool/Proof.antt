@@ -1,9 +1,9 @@
 -- `read_bool` meets its contract: one bit, read.
 -- Assumes nothing.
+use mathlib.Core.Path.{_∙_, ap, sym}
 use borrow.Author.Needs.{needs}
 use Rattle.jxl_bitstream.specs.Fields.{bool}
 use Rattle.jxl_bitstream.specs.Told.{toldU32}
-use mathlib.Core.Path.{_∙_, ap, sym}
 use Rattle.jxl_bitstream.proofs.bitstream.read_bool.Statement.{statement}
 use Rattle.jxl_bitstream.proofs.bitstream.read_bool.Tie as tie
 

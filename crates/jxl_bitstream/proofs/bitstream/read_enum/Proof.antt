@@ -1,9 +1,9 @@
 -- `read_enum` meets its contract: the choice, then the list.
 -- Assumes nothing.
+use mathlib.Core.Path.{_∙_, ap, sym}
 use borrow.Author.Needs.{needs}
 use Rattle.jxl_bitstream.specs.Fields.{enumOf}
 use Rattle.jxl_bitstream.specs.Told.{toldU32}
-use mathlib.Core.Path.{_∙_, ap, sym}
 use Rattle.jxl_bitstream.proofs.bitstream.read_enum.Statement.{statement}
 use Rattle.jxl_bitstream.proofs.bitstream.read_enum.Tie as tie
 

@@ -1,14 +1,14 @@
 -- `read_f16_as_f32` meets its contract: the beginning, 16 bits, then what they say.
 -- Assumes nothing.
-use borrow.Author.Needs.{needs}
-use Rattle.jxl_bitstream.proofs.Parts.{begun, long-only, given, short}
-use Rattle.jxl_bitstream.specs.Fields.{f16, half}
-use borrow.Author.Tests.{eq-eqb, ne-eqb}
-use native.Mathlib.Omega.{arith}
-use lib.Dec.{lit≤}
 use mathlib.Core.Bool.{false}
-use Rattle.jxl_bitstream.specs.Told.{toldU32, toldMoved}
 use mathlib.Core.Path.{_∙_, ap, sym}
+use native.Mathlib.Omega.{arith}
+use borrow.Author.Needs.{needs}
+use borrow.Author.Tests.{eq-eqb, ne-eqb}
+use lib.Dec.{lit≤}
+use Rattle.jxl_bitstream.specs.Fields.{f16, half}
+use Rattle.jxl_bitstream.specs.Told.{toldU32, toldMoved}
+use Rattle.jxl_bitstream.proofs.Parts.{begun, long-only, given, short}
 use Rattle.jxl_bitstream.proofs.bitstream.read_f16_as_f32.Statement.{statement}
 use Rattle.jxl_bitstream.proofs.bitstream.read_f16_as_f32.Tie as tie
 

@@ -1,12 +1,12 @@
 -- `read_u32` meets its contract: the beginning with the four widths, then the choice.
 -- Assumes nothing.
-use borrow.Author.Needs.{needs}
 use mathlib.Core.Bool.{Bool}
-use Rattle.jxl_bitstream.proofs.Parts.{begun}
-use Rattle.jxl_bitstream.specs.Fields.{begin, anyWide, u32}
-use Prim.Native.Nat.{zero-le}
-use Rattle.jxl_bitstream.specs.Told.{toldMoved}
 use mathlib.Core.Path.{_∙_, ap, sym}
+use Prim.Native.Nat.{zero-le}
+use borrow.Author.Needs.{needs}
+use Rattle.jxl_bitstream.specs.Fields.{begin, anyWide, u32}
+use Rattle.jxl_bitstream.specs.Told.{toldMoved}
+use Rattle.jxl_bitstream.proofs.Parts.{begun}
 use Rattle.jxl_bitstream.proofs.bitstream.read_u32.Statement.{statement}
 use Rattle.jxl_bitstream.proofs.bitstream.read_u32.Tie as tie
 

@@ -1,13 +1,13 @@
 -- `read_u64` meets its contract: the beginning, the selector, then what follows it.
 -- Assumes nothing.
-use borrow.Author.Needs.{needs}
-use Rattle.jxl_bitstream.proofs.Parts.{begun, long-only, given, short}
-use Rattle.jxl_bitstream.specs.Fields.{u64}
-use lib.Dec.{lit≤}
-use Prim.Native.Nat.{zero-le}
 use mathlib.Core.Bool.{false}
-use Rattle.jxl_bitstream.specs.Told.{toldU32, toldMoved}
 use mathlib.Core.Path.{_∙_, ap, sym}
+use Prim.Native.Nat.{zero-le}
+use borrow.Author.Needs.{needs}
+use lib.Dec.{lit≤}
+use Rattle.jxl_bitstream.specs.Fields.{u64}
+use Rattle.jxl_bitstream.specs.Told.{toldU32, toldMoved}
+use Rattle.jxl_bitstream.proofs.Parts.{begun, long-only, given, short}
 use Rattle.jxl_bitstream.proofs.bitstream.read_u64.Statement.{statement}
 use Rattle.jxl_bitstream.proofs.bitstream.read_u64.Tie as tie
 

@@ -1,12 +1,12 @@
 -- `select` meets its contract: the selector is below 4, and no choice is wide.
 -- Assumes nothing.
-use borrow.Author.Needs.{needs}
-use Rattle.jxl_bitstream.proofs.Parts.{given, short}
-use Rattle.jxl_bitstream.proofs.Choices.{narrow}
-use Rattle.jxl_bitstream.specs.Fields.{select}
-use Prim.Native.Nat.{zero-le}
-use Rattle.jxl_bitstream.specs.Told.{toldU32}
 use mathlib.Core.Path.{_∙_, ap, sym}
+use Prim.Native.Nat.{zero-le}
+use borrow.Author.Needs.{needs}
+use Rattle.jxl_bitstream.specs.Fields.{select}
+use Rattle.jxl_bitstream.specs.Told.{toldU32}
+use Rattle.jxl_bitstream.proofs.Choices.{narrow}
+use Rattle.jxl_bitstream.proofs.Parts.{given, short}
 use Rattle.jxl_bitstream.proofs.bitstream.select.Statement.{statement}
 use Rattle.jxl_bitstream.proofs.bitstream.select.Tie as tie
 

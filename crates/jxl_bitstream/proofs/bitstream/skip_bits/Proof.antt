@@ -1,15 +1,15 @@
 -- `skip_bits` meets its contract: as the beginning leaves the position, the bits are there or they are not.
 -- Assumes nothing.
-use borrow.Author.Needs.{needs}
 use mathlib.Core.Bool.{false}
-use Rattle.jxl_bitstream.proofs.Parts.{begun}
-use Rattle.jxl_bitstream.specs.Fields.{skip, leap}
-use Rattle.jxl_bitstream.specs.Bits.{end}
-use borrow.Author.Tests.{le-leb, lt-leb}
-use Rattle.jxl_bitstream.specs.Told.{toldMoved}
-use native.Mathlib.Omega.{arith}
-use Prim.Native.Nat.{_+_}
 use mathlib.Core.Path.{_∙_, ap, sym}
+use Prim.Native.Nat.{_+_}
+use native.Mathlib.Omega.{arith}
+use borrow.Author.Needs.{needs}
+use borrow.Author.Tests.{le-leb, lt-leb}
+use Rattle.jxl_bitstream.specs.Bits.{end}
+use Rattle.jxl_bitstream.specs.Fields.{skip, leap}
+use Rattle.jxl_bitstream.specs.Told.{toldMoved}
+use Rattle.jxl_bitstream.proofs.Parts.{begun}
 use Rattle.jxl_bitstream.proofs.bitstream.skip_bits.Statement.{statement}
 use Rattle.jxl_bitstream.proofs.bitstream.skip_bits.Tie as tie
 

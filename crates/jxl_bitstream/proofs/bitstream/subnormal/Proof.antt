@@ -1,15 +1,15 @@
 -- `subnormal` meets its contract: the test over all mantissas says the bits, with either sign.
 -- Assumes nothing.
-use borrow.Author.Needs.{needs}
-use Rattle.jxl_bitstream.proofs.Halves.{computed-bits, signed-zero}
-use Rattle.jxl_bitstream.specs.Half.{magnitude}
-use lib.Ieee.{inFloat, nanBits}
-use lib.Dec.{le→leb}
-use native.Mathlib.Omega.{arith}
-use native.Mathlib.Nat.{add-zero}
-use Prim.Native.Nat.{_^_}
 use mathlib.Core.Bool.{true, false}
 use mathlib.Core.Path.{_≡_}
+use Prim.Native.Nat.{_^_}
+use native.Mathlib.Nat.{add-zero}
+use native.Mathlib.Omega.{arith}
+use borrow.Author.Needs.{needs}
+use lib.Dec.{le→leb}
+use lib.Ieee.{inFloat, nanBits}
+use Rattle.jxl_bitstream.specs.Half.{magnitude}
+use Rattle.jxl_bitstream.proofs.Halves.{computed-bits, signed-zero}
 use Rattle.jxl_bitstream.proofs.bitstream.subnormal.Statement.{statement}
 use Rattle.jxl_bitstream.proofs.bitstream.subnormal.Tie as tie
 

@@ -1,12 +1,12 @@
 -- `widened` meets its contract: by the exponent.
 -- Assumes nothing.
-use borrow.Author.Needs.{needs}
-use Rattle.jxl_bitstream.proofs.Halves.{no-nan, magnitude-above}
-use native.Mathlib.Omega.{arith}
-use Rattle.jxl_bitstream.specs.Half.{sign, exponent, mantissa, magnitude, pattern}
-use lib.Ieee.{binary32, ofBits}
-use Prim.Native.Nat.{ℕ, _+_, _*_, _^_}
 use mathlib.Core.Path.{_∙_, ap, sym}
+use Prim.Native.Nat.{ℕ, _+_, _*_, _^_}
+use native.Mathlib.Omega.{arith}
+use borrow.Author.Needs.{needs}
+use lib.Ieee.{binary32, ofBits}
+use Rattle.jxl_bitstream.specs.Half.{sign, exponent, mantissa, magnitude, pattern}
+use Rattle.jxl_bitstream.proofs.Halves.{no-nan, magnitude-above}
 use Rattle.jxl_bitstream.proofs.bitstream.widened.Statement.{statement}
 use Rattle.jxl_bitstream.proofs.bitstream.widened.Tie as tie
 

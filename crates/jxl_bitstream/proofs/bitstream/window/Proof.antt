@@ -1,7 +1,7 @@
 -- `window` meets its contract: five bytes, read or 0 beyond the end, are the number up to 2 ^ 40.
 -- Assumes nothing.
-use borrow.Author.Needs.{needs}
 use mathlib.Core.Path.{_∙_, sym}
+use borrow.Author.Needs.{needs}
 use Rattle.jxl_bitstream.proofs.Numbers.{five}
 use Rattle.jxl_bitstream.proofs.bitstream.window.Statement.{statement}
 use Rattle.jxl_bitstream.proofs.bitstream.window.Tie as tie

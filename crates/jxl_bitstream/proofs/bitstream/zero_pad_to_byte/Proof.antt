@@ -1,12 +1,12 @@
 -- `zero_pad_to_byte` meets its contract: the beginning, then the bits.
 -- Assumes nothing.
-use borrow.Author.Needs.{needs}
-use Rattle.jxl_bitstream.proofs.Parts.{begun}
-use Rattle.jxl_bitstream.specs.Fields.{pad}
-use Prim.Native.Nat.{zero-le}
 use mathlib.Core.Bool.{false}
-use Rattle.jxl_bitstream.specs.Told.{toldMoved}
 use mathlib.Core.Path.{_∙_, ap, sym}
+use Prim.Native.Nat.{zero-le}
+use borrow.Author.Needs.{needs}
+use Rattle.jxl_bitstream.specs.Fields.{pad}
+use Rattle.jxl_bitstream.specs.Told.{toldMoved}
+use Rattle.jxl_bitstream.proofs.Parts.{begun}
 use Rattle.jxl_bitstream.proofs.bitstream.zero_pad_to_byte.Statement.{statement}
 use Rattle.jxl_bitstream.proofs.bitstream.zero_pad_to_byte.Tie as tie
 

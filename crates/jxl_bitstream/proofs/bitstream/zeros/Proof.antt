@@ -1,11 +1,11 @@
 -- `zeros` meets its contract: the part is answered as the rule has it.
 -- Assumes nothing.
-use borrow.Author.Needs.{needs}
-use Rattle.jxl_bitstream.proofs.Parts.{short}
-use Rattle.jxl_bitstream.specs.Fields.{toByte}
-use borrow.Author.Tests.{eq-eqb, ne-eqb}
-use Rattle.jxl_bitstream.specs.Told.{toldU32}
 use mathlib.Core.Path.{_∙_, ap, sym}
+use borrow.Author.Needs.{needs}
+use borrow.Author.Tests.{eq-eqb, ne-eqb}
+use Rattle.jxl_bitstream.specs.Fields.{toByte}
+use Rattle.jxl_bitstream.specs.Told.{toldU32}
+use Rattle.jxl_bitstream.proofs.Parts.{short}
 use Rattle.jxl_bitstream.proofs.bitstream.zeros.Statement.{statement}
 use Rattle.jxl_bitstream.proofs.bitstream.zeros.Tie as tie
 
