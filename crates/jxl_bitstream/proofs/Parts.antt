@@ -13,6 +13,7 @@ use lib.Pow.{pow-pos}
 use Rattle.jxl_bitstream.specs.Answer.{Answer, Field, onward, gives, refuses}
 use Rattle.jxl_bitstream.specs.Bits.{number, bits, end}
 use Rattle.jxl_bitstream.specs.Fields.{begin, part}
+use Rattle.jxl_bitstream.specs.Ready.{Ready}
 use Rattle.jxl_bitstream.specs.Refusals.{eof, width, long}
 
 abbrev Absurd : Type 0
@@ -45,6 +46,12 @@ begun wide s at p h = go (ltb (2 ^ 61 - 1) (length s)) wide refl refl h
     go false false l e k =
         let place : p ≡ min at (end s) = cc in
         record { short = ltb-false _ _ l; within = omega arith; place = place; narrow = e }
+
+-- so a part of n bits may follow
+pub ready : (wide : Bool) (s : List ℕ) (at p : ℕ) → gives (tt {0}) p ≡ begin wide s at → (n : ℕ) → n ≤ 32 → Ready s p n
+ready wide s at p h n small =
+    let b = begun wide s at p h in
+    record { short = b .short; within = b .within; narrow = small }
 
 pub record Given (n : ℕ) (s : List ℕ) (at v p : ℕ) : Type 0 where
   pub next : p ≡ at + n

@@ -37,19 +37,17 @@ look n s at = gives (bits s at n) at
 unfoldable pub peek : ℕ → Field ℕ
 peek n = begin (over n) >>= λ _. look n
 
--- Consume n and skip n move on by n if that many bits are left; else consume refuses 3 and stays, a skip goes to the end and refuses 3.
-unfoldable pub move : ℕ → Field (Unit {0})
-move n s at = cond (leb (at + n) (end s)) (gives tt (at + n)) (refuses eof [] at)
+-- Consume n and skip n move on by n if that many bits are left; else refusal 3, which leaves the reader at `stop`.
+unfoldable pub move : ℕ → ℕ → Field (Unit {0})
+move n stop s at = cond (leb (at + n) (end s)) (gives tt (at + n)) (refuses eof [] stop)
 
+-- Consume refuses 3 and stays.
 unfoldable pub consume : ℕ → Field (Unit {0})
-consume n = begin (over n) >>= λ _. move n
+consume n = begin (over n) >>= λ _ s at. move n at s at
 
-unfoldable pub leap : ℕ → Field (Unit {0})
-leap n s at = cond (leb (at + n) (end s)) (gives tt (at + n)) (refuses eof [] (end s))
-
--- Skip has no width limit.
+-- A skip that is too long goes to the end and refuses 3. Skip has no width limit.
 unfoldable pub skip : ℕ → Field (Unit {0})
-skip n = begin false >>= λ _. leap n
+skip n = begin false >>= λ _ s at. move n (end s) s at
 
 -- Pad: the 0 to 7 bits up to the next byte boundary. Not all 0: refusal 4, the reader after them.
 abbrev pub toByte : ℕ → ℕ

@@ -146,23 +146,29 @@ pub fn read_bits(s: &[u8], at: usize, n: usize) -> ReadU32
     }
 }
 
-// Moves on by `n`, up to 32, if that many bits are left; else stays.
+// On by `n` if that many bits are left; else a refusal that leaves the reader at `stop`.
+fn step(s: &[u8], p: usize, n: usize, stop: usize) -> Moved
+    requires { ⌜ Ready (now s) p 0 ⌝ }
+    ensures { λ r. ⌜ toldMoved r ≡ F.move n stop (now (s .entry)) p ⌝ }
+{
+    if n <= 8 * s.len() - p {
+        Moved::To(p + n)
+    } else {
+        Moved::Refused(Refusal::UnexpectedEof, stop)
+    }
+}
+
+// Moves on by `n`, up to 32; where fewer bits are left it stays.
 pub fn consume_bits(s: &[u8], at: usize, n: usize) -> Moved
     ensures { λ r. ⌜ toldMoved r ≡ F.consume n (now (s .entry)) at ⌝ }
 {
     match begin(s, at, 32 < n) {
         Moved::Refused(refusal, p) => Moved::Refused(refusal, p),
-        Moved::To(p) => {
-            if n <= 8 * s.len() - p {
-                Moved::To(p + n)
-            } else {
-                Moved::Refused(Refusal::UnexpectedEof, p)
-            }
-        }
+        Moved::To(p) => step(s, p, n, p),
     }
 }
 
-// Moves on by `n` if that many bits are left; else to the end.
+// Moves on by `n`; where fewer bits are left it goes to the end.
 pub fn skip_bits(s: &[u8], at: usize, n: usize) -> Moved
     ensures { λ r. ⌜ toldMoved r ≡ F.skip n (now (s .entry)) at ⌝ }
 {
@@ -170,11 +176,7 @@ pub fn skip_bits(s: &[u8], at: usize, n: usize) -> Moved
         Moved::Refused(refusal, p) => Moved::Refused(refusal, p),
         Moved::To(p) => {
             let end = 8 * s.len();
-            if n <= end - p {
-                Moved::To(p + n)
-            } else {
-                Moved::Refused(Refusal::UnexpectedEof, end)
-            }
+            step(s, p, n, end)
         }
     }
 }
@@ -205,10 +207,10 @@ pub fn zero_pad_to_byte(s: &[u8], at: usize) -> Moved
 }
 
 // The count of bits read: the position as it stands.
-pub fn num_read_bits(at: usize) -> usize
-    ensures { λ r. ⌜ r ≡ at ⌝ }
+pub fn num_read_bits(position: usize) -> usize
+    ensures { λ r. ⌜ r ≡ position ⌝ }
 {
-    at
+    position
 }
 
 // `Bool`: 1 bit.
@@ -285,7 +287,8 @@ fn select(s: &[u8], at: usize, d: [U32Specifier; 4]) -> ReadU32
 pub fn read_u32(s: &[u8], at: usize, d: [U32Specifier; 4]) -> ReadU32
     ensures { λ r. ⌜ toldU32 r ≡ F.u32 d (now (s .entry)) at ⌝ }
 {
-    match begin(s, at, any_over(d)) {
+    let wide = any_over(d);
+    match begin(s, at, wide) {
         Moved::Refused(refusal, p) => ReadU32::Refused(refusal, p),
         Moved::To(p) => select(s, p, d),
     }

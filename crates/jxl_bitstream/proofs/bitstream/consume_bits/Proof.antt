@@ -1,14 +1,11 @@
--- `consume_bits` meets its contract: as the beginning leaves the position, the bits are there or they are not.
+-- `consume_bits` meets its contract: the beginning, then the step.
 -- Assumes nothing.
 use mathlib.Core.Path.{_∙_, ap, sym}
-use Prim.Native.Nat.{_+_}
-use native.Mathlib.Omega.{arith}
+use Prim.Native.Nat.{zero-le}
 use borrow.Author.Needs.{needs}
-use borrow.Author.Tests.{le-leb, lt-leb}
-use Rattle.jxl_bitstream.specs.Bits.{end}
-use Rattle.jxl_bitstream.specs.Fields.{over, consume, move}
+use Rattle.jxl_bitstream.specs.Fields.{over, consume}
 use Rattle.jxl_bitstream.specs.Told.{toldMoved}
-use Rattle.jxl_bitstream.proofs.Parts.{begun}
+use Rattle.jxl_bitstream.proofs.Parts.{ready}
 use Rattle.jxl_bitstream.proofs.bitstream.consume_bits.Statement.{statement}
 use Rattle.jxl_bitstream.proofs.bitstream.consume_bits.Tie as tie
 
@@ -21,52 +18,20 @@ enum-known-refusal c = search needs
 enum-known-p : tie.Need-enum-known-p
 enum-known-p c = search needs
 
-mul-if1 : tie.Need-mul-if1
-mul-if1 c =
+step-requires : tie.Need-step-requires
+step-requires c κs =
     let a = c .before .before .before .before .before .args in
-    let h = begun (over (a .n)) (a .s .now) (a .at) _ (ap toldMoved (sym (c .before .p .given .1)) ∙ c .before .before .before .begin .ensures) in
-    omega arith
-
-sub-if1 : tie.Need-sub-if1
-sub-if1 c =
-    let a = c .before .before .before .before .before .args in
-    let h = begun (over (a .n)) (a .s .now) (a .at) _ (ap toldMoved (sym (c .before .p .given .1)) ∙ c .before .before .before .begin .ensures) in
-    h .within
-
-add-t15 : tie.Need-add-t15
-add-t15 c =
-    let a = c .before .before .before .before .before .before .args in
-    let h = begun (over (a .n)) (a .s .now) (a .at) _ (ap toldMoved (sym (c .before .before .p .given .1)) ∙ c .before .before .before .before .begin .ensures) in
-    omega arith
+    ready (over (a .n)) (a .s .now) (a .at) _ (ap toldMoved (sym (c .before .p .given .1)) ∙ c .before .before .before .begin .ensures) 0 zero-le
 
 returns : tie.Need-returns
 unfolding consume
 returns c = rw (← (ap toldMoved (sym (c .before .refusal .given .1)) ∙ c .before .before .before .begin .ensures))
 
 returns-2 : tie.Need-returns-2
-unfolding consume move
-returns-2 c =
-    let a = c .before .before .before .before .before .before .args in
-    let h = begun (over (a .n)) (a .s .now) (a .at) _ (ap toldMoved (sym (c .before .before .p .given .1)) ∙ c .before .before .before .before .begin .ensures) in
-    rw (← (ap toldMoved (sym (c .before .before .p .given .1)) ∙ c .before .before .before .before .begin .ensures), le-leb (c .before .before .p .given .0 .0 + a .n) (end (a .s .now)) (omega arith))
-
-returns-3 : tie.Need-returns-3
-unfolding consume move
-returns-3 c =
-    let a = c .before .before .before .before .before .before .args in
-    let h = begun (over (a .n)) (a .s .now) (a .at) _ (ap toldMoved (sym (c .before .before .p .given .1)) ∙ c .before .before .before .before .begin .ensures) in
-    rw (← (ap toldMoved (sym (c .before .before .p .given .1)) ∙ c .before .before .before .before .begin .ensures), lt-leb (c .before .before .p .given .0 .0 + a .n) (end (a .s .now)) (omega arith))
+unfolding consume
+returns-2 c = rw (← (ap toldMoved (sym (c .before .before .p .given .1)) ∙ c .before .before .before .before .begin .ensures)) (c .step .ensures)
 
 pub consume-bits-spec : {M : Type 1} → statement M
 consume-bits-spec =
     tie.close
-    (tie.spec
-    begin-requires
-    enum-known-refusal
-    enum-known-p
-    mul-if1
-    sub-if1
-    add-t15
-    returns
-    returns-2
-    returns-3)
+    (tie.spec begin-requires enum-known-refusal enum-known-p step-requires returns returns-2)

@@ -5,7 +5,7 @@ use borrow.Author.Needs.{needs}
 use borrow.Author.Tests.{ltb-false}
 use Rattle.jxl_bitstream.specs.Fields.{over, peek}
 use Rattle.jxl_bitstream.specs.Told.{toldMoved}
-use Rattle.jxl_bitstream.proofs.Parts.{begun}
+use Rattle.jxl_bitstream.proofs.Parts.{begun, ready}
 use Rattle.jxl_bitstream.proofs.bitstream.peek_bits.Statement.{statement}
 use Rattle.jxl_bitstream.proofs.bitstream.peek_bits.Tie as tie
 
@@ -21,8 +21,8 @@ enum-known-p c = search needs
 look-requires : tie.Need-look-requires
 look-requires c κs =
     let a = c .before .before .before .before .before .args in
-    let h = begun (over (a .n)) (a .s .now) (a .at) _ (ap toldMoved (sym (c .before .p .given .1)) ∙ c .before .before .before .begin .ensures) in
-    record { short = h .short; within = h .within; narrow = ltb-false 32 (a .n) (h .narrow) }
+    let h = (ap toldMoved (sym (c .before .p .given .1)) ∙ c .before .before .before .begin .ensures) in
+    ready (over (a .n)) (a .s .now) (a .at) _ h (a .n) (ltb-false 32 (a .n) (begun (over (a .n)) (a .s .now) (a .at) _ h .narrow))
 
 returns : tie.Need-returns
 unfolding peek

@@ -8,7 +8,7 @@ use borrow.Author.Tests.{eq-eqb, ne-eqb}
 use lib.Dec.{lit≤}
 use Rattle.jxl_bitstream.specs.Fields.{f16, half}
 use Rattle.jxl_bitstream.specs.Told.{toldU32, toldMoved}
-use Rattle.jxl_bitstream.proofs.Parts.{begun, long-only, given, short}
+use Rattle.jxl_bitstream.proofs.Parts.{ready, long-only, given, short}
 use Rattle.jxl_bitstream.proofs.bitstream.read_f16_as_f32.Statement.{statement}
 use Rattle.jxl_bitstream.proofs.bitstream.read_f16_as_f32.Tie as tie
 
@@ -30,8 +30,7 @@ returns c =
 part-requires : tie.Need-part-requires
 part-requires c κs =
     let a = c .before .before .before .before .before .args in
-    let h = begun false (a .s .now) (a .at) _ (ap toldMoved (sym (c .before .p .given .1)) ∙ c .before .before .before .begin .ensures) in
-    record { short = h .short; within = h .within; narrow = lit≤ tt }
+    ready false (a .s .now) (a .at) _ (ap toldMoved (sym (c .before .p .given .1)) ∙ c .before .before .before .begin .ensures) 16 (lit≤ tt)
 
 enum-known-v : tie.Need-enum-known-v
 enum-known-v c = search needs

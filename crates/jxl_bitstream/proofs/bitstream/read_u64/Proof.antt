@@ -7,7 +7,7 @@ use borrow.Author.Needs.{needs}
 use lib.Dec.{lit≤}
 use Rattle.jxl_bitstream.specs.Fields.{u64}
 use Rattle.jxl_bitstream.specs.Told.{toldU32, toldMoved}
-use Rattle.jxl_bitstream.proofs.Parts.{begun, long-only, given, short}
+use Rattle.jxl_bitstream.proofs.Parts.{begun, ready, long-only, given, short}
 use Rattle.jxl_bitstream.proofs.bitstream.read_u64.Statement.{statement}
 use Rattle.jxl_bitstream.proofs.bitstream.read_u64.Tie as tie
 
@@ -29,8 +29,7 @@ returns c =
 part-requires : tie.Need-part-requires
 part-requires c κs =
     let a = c .before .before .before .before .before .args in
-    let h = begun false (a .s .now) (a .at) _ (ap toldMoved (sym (c .before .p .given .1)) ∙ c .before .before .before .begin .ensures) in
-    record { short = h .short; within = h .within; narrow = lit≤ tt }
+    ready false (a .s .now) (a .at) _ (ap toldMoved (sym (c .before .p .given .1)) ∙ c .before .before .before .begin .ensures) 2 (lit≤ tt)
 
 enum-known-selector : tie.Need-enum-known-selector
 enum-known-selector c = search needs

@@ -1,15 +1,13 @@
--- `skip_bits` meets its contract: as the beginning leaves the position, the bits are there or they are not.
+-- `skip_bits` meets its contract: the beginning, then the step.
 -- Assumes nothing.
 use mathlib.Core.Bool.{false}
 use mathlib.Core.Path.{_∙_, ap, sym}
-use Prim.Native.Nat.{_+_}
+use Prim.Native.Nat.{zero-le}
 use native.Mathlib.Omega.{arith}
 use borrow.Author.Needs.{needs}
-use borrow.Author.Tests.{le-leb, lt-leb}
-use Rattle.jxl_bitstream.specs.Bits.{end}
-use Rattle.jxl_bitstream.specs.Fields.{skip, leap}
+use Rattle.jxl_bitstream.specs.Fields.{skip}
 use Rattle.jxl_bitstream.specs.Told.{toldMoved}
-use Rattle.jxl_bitstream.proofs.Parts.{begun}
+use Rattle.jxl_bitstream.proofs.Parts.{begun, ready}
 use Rattle.jxl_bitstream.proofs.bitstream.skip_bits.Statement.{statement}
 use Rattle.jxl_bitstream.proofs.bitstream.skip_bits.Tie as tie
 
@@ -28,35 +26,18 @@ mul-end c =
     let h = begun false (a .s .now) (a .at) _ (ap toldMoved (sym (c .before .p .given .1)) ∙ c .before .before .before .begin .ensures) in
     omega arith
 
-sub-if1 : tie.Need-sub-if1
-sub-if1 c =
+step-requires : tie.Need-step-requires
+step-requires c κs =
     let a = c .before .before .before .before .before .args in
-    let h = begun false (a .s .now) (a .at) _ (ap toldMoved (sym (c .before .p .given .1)) ∙ c .before .before .before .begin .ensures) in
-    h .within
-
-add-t13 : tie.Need-add-t13
-add-t13 c =
-    let a = c .before .before .before .before .before .before .args in
-    let h = begun false (a .s .now) (a .at) _ (ap toldMoved (sym (c .before .before .p .given .1)) ∙ c .before .before .before .before .begin .ensures) in
-    omega arith
+    ready false (a .s .now) (a .at) _ (ap toldMoved (sym (c .before .p .given .1)) ∙ c .before .before .before .begin .ensures) 0 zero-le
 
 returns : tie.Need-returns
 unfolding skip
 returns c = rw (← (ap toldMoved (sym (c .before .refusal .given .1)) ∙ c .before .before .before .begin .ensures))
 
 returns-2 : tie.Need-returns-2
-unfolding skip leap
-returns-2 c =
-    let a = c .before .before .before .before .before .before .args in
-    let h = begun false (a .s .now) (a .at) _ (ap toldMoved (sym (c .before .before .p .given .1)) ∙ c .before .before .before .before .begin .ensures) in
-    rw (← (ap toldMoved (sym (c .before .before .p .given .1)) ∙ c .before .before .before .before .begin .ensures), le-leb (c .before .before .p .given .0 .0 + a .n) (end (a .s .now)) (omega arith))
-
-returns-3 : tie.Need-returns-3
-unfolding skip leap
-returns-3 c =
-    let a = c .before .before .before .before .before .before .args in
-    let h = begun false (a .s .now) (a .at) _ (ap toldMoved (sym (c .before .before .p .given .1)) ∙ c .before .before .before .before .begin .ensures) in
-    rw (← (ap toldMoved (sym (c .before .before .p .given .1)) ∙ c .before .before .before .before .begin .ensures), lt-leb (c .before .before .p .given .0 .0 + a .n) (end (a .s .now)) (omega arith))
+unfolding skip
+returns-2 c = rw (← (ap toldMoved (sym (c .before .before .p .given .1)) ∙ c .before .before .before .before .begin .ensures)) (c .step .ensures)
 
 pub skip-bits-spec : {M : Type 1} → statement M
 skip-bits-spec =
@@ -66,8 +47,6 @@ skip-bits-spec =
     enum-known-refusal
     enum-known-p
     mul-end
-    sub-if1
-    add-t13
+    step-requires
     returns
-    returns-2
-    returns-3)
+    returns-2)

@@ -6,7 +6,7 @@ use Prim.Native.Nat.{zero-le}
 use borrow.Author.Needs.{needs}
 use Rattle.jxl_bitstream.specs.Fields.{pad}
 use Rattle.jxl_bitstream.specs.Told.{toldMoved}
-use Rattle.jxl_bitstream.proofs.Parts.{begun}
+use Rattle.jxl_bitstream.proofs.Parts.{ready}
 use Rattle.jxl_bitstream.proofs.bitstream.zero_pad_to_byte.Statement.{statement}
 use Rattle.jxl_bitstream.proofs.bitstream.zero_pad_to_byte.Tie as tie
 
@@ -22,8 +22,7 @@ enum-known-p c = search needs
 zeros-requires : tie.Need-zeros-requires
 zeros-requires c κs =
     let a = c .before .before .before .before .before .args in
-    let h = begun false (a .s .now) (a .at) _ (ap toldMoved (sym (c .before .p .given .1)) ∙ c .before .before .before .begin .ensures) in
-    record { short = h .short; within = h .within; narrow = zero-le }
+    ready false (a .s .now) (a .at) _ (ap toldMoved (sym (c .before .p .given .1)) ∙ c .before .before .before .begin .ensures) 0 zero-le
 
 returns : tie.Need-returns
 unfolding pad
