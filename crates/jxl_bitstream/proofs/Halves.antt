@@ -2,21 +2,25 @@
 -- And the bits of each code are exactly the paper's number of units of 2^-24 with its sign: the same test, and a law where the exponent is not 0.
 -- Assumes nothing.
 use mathlib.Core.Bool.{Bool, true, false, not, _&&_, Bool·beq}
+use mathlib.Core.List.{List}
 use mathlib.Core.Path.{_≡_, refl, sym, ap, _∙_}
 use Prim.Native.Nat.{ℕ, zero, suc, _+_, _*_, _/_, _%_, _^_, _<_}
 use native.Mathlib.Nat.{not-suc-le-zero, mul-assoc, mul-comm, mul-left-comm, mul-right-comm, eq-of-mul-eq-mul-right}
 use native.Mathlib.Numerals.{add-one}
 use native.Mathlib.Omega.{arith}
 use borrow.Author.Count.{below-more}
-use borrow.Author.Tests.{lt-leb, le-leb, ne-eqb}
+use borrow.Author.Tests.{lt-leb, le-leb, ne-eqb, eqb-false}
 use lib.Dec.{T, leb, eqb, eqb→eq, lit<}
 use lib.Ieee.Bits.{ofBits-toBits}
 use lib.Ieee.Exact.{HasValue, odd-sign}
 use lib.Ieee.Fits.{and-l, and-r, mul-fits, neg-fits}
-use lib.Ieee.{Float, nan, inf, fin, up, down, binary32, mul, div, neg, ofInt, ofBits, odd, ofFields, toBits, fits, nanBits}
+use lib.Ieee.{Float, nan, inf, fin, up, down, binary32, mul, div, neg, ofInt, ofBits, odd, ofFields, toBits, fits, nanBits, isNan}
 use lib.IntN.{pos}
 use lib.Pow.{pow-add}
+use Rattle.jxl_bitstream.specs.Answer.{gives, _>>=_}
+use Rattle.jxl_bitstream.specs.Fields.{begin, part, half, f16}
 use Rattle.jxl_bitstream.specs.Half.{sign, exponent, mantissa, units, magnitude, pattern}
+use Rattle.jxl_bitstream.proofs.Parts.{differ, gave, given}
 
 -- ---- a test at every number below n
 abbrev all : (ℕ → Bool) → ℕ → Bool
@@ -162,14 +166,7 @@ exact v h l = rw (weighs (sign v) (omega arith)) (go (exponent v) l)
     go zero k = alone (eqb (sign v) 1) (mantissa v) (omega arith)
     go (suc e) k = above (eqb (sign v) 1) e (mantissa v) (omega arith) (omega arith)
 
--- a pattern that is a sign alone is no NaN's
-pub signed-zero : (s : ℕ) → s < 2 → T (not (nanBits binary32 (s * 2 ^ 31)))
-unfolding nanBits
-signed-zero zero h = tt
-signed-zero (suc zero) h = tt
-signed-zero (suc (suc s)) h = absurd (omega arith)
-
--- nor is one whose exponent's field is not all ones
+-- a pattern whose exponent's field is not all ones is no NaN's
 pub no-nan : (b : ℕ) → (b % 2 ^ 31 / 2 ^ 23 ≡ 255 → ⊥) → T (not (nanBits binary32 b))
 unfolding nanBits
 no-nan b n = rw (ne-eqb (b % 2 ^ 31 / 2 ^ 23) 255 n) tt
@@ -179,3 +176,27 @@ pub magnitude-above : (e m : ℕ) → (e ≡ 0 → ⊥) → magnitude e m ≡ (e
 unfolding magnitude
 magnitude-above zero m n = absurd (n refl)
 magnitude-above (suc e) m n = omega arith
+
+-- what `read_f16_as_f32` gives is a number
+has-number : (x : Float) (s : Bool) (a c : ℕ) → HasValue x s a c → T (not (isNan x))
+unfolding isNan
+has-number nan s a c h = absurd h
+has-number (inf t) s a c h = absurd h
+has-number (fin t m e) s a c h = tt
+
+same-value : {A : Type 0} {a b : A} {p q : ℕ} → gives a p ≡ gives b q → b ≡ a
+same-value h = cc
+
+pub f16-number : (s : List ℕ) (at : ℕ) (x : Float) (p : ℕ) → f16 s at ≡ gives x p → T (not (isNan x))
+unfolding f16 half
+f16-number s at x p h =
+    let b = gave s (begin false s at) (λ _. part 16 >>= half) x p h in
+    let g = gave s (part 16 s (b .1)) half x p (b .3) in
+    numeric (g .0) (given 16 s (b .1) (g .0) (g .1) (sym (g .2)) .below) (eqb (exponent (g .0)) 31) refl (g .1) (g .3)
+  where
+    numeric : (v : ℕ) → v < 2 ^ 16 → (t : Bool) → eqb (exponent v) 31 ≡ t → (q : ℕ) → half v s q ≡ gives x p → T (not (isNan x))
+    numeric v small true e q k = differ (sym (rw e at k))
+    numeric v small false e q k =
+        let same : x ≡ ofBits binary32 (pattern v) = same-value (rw e at k) in
+        let low : exponent v < 31 = omega (arith, eqb-false (exponent v) 31 e) in
+        rw same (has-number _ _ _ _ (exact v small low))

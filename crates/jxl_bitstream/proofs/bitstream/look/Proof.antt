@@ -4,6 +4,7 @@ use mathlib.Core.Path.{_∙_, ap}
 use Prim.Native.Nat.{ℕ, _/_, _%_, _^_}
 use native.Mathlib.Nat.{lt-of-lt-of-le, mod-lt}
 use borrow.Author.Needs.{needs}
+use lib.Bits.{and-mask}
 use lib.Pow.{pow-pos, pow-mono}
 use Rattle.jxl_bitstream.proofs.Numbers.{from-five, masked, one-at}
 use Rattle.jxl_bitstream.proofs.bitstream.look.Statement.{statement}
@@ -24,10 +25,8 @@ sub-result c = rw (one-at (c .before .before .args .n) (c .before .before .pre .
 cast-result : tie.Need-cast-result
 cast-result c =
     let a = c .before .before .args in
-    record {
-      fits = rw (masked (c .window .result / 2 ^ (a .at % 8)) (a .n) (c .before .before .pre .narrow))
-          (lt-of-lt-of-le (mod-lt _ (pow-pos (a .n))) (pow-mono (c .before .before .pre .narrow)));
-    }
+    let small = c .before .before .pre .narrow in
+    record { fits = rw (one-at (a .n) small, and-mask) (lt-of-lt-of-le (mod-lt _ (pow-pos (a .n))) (pow-mono small)) }
 
 returns : tie.Need-returns
 returns c =

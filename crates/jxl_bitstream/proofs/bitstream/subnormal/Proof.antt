@@ -7,9 +7,9 @@ use native.Mathlib.Nat.{add-zero}
 use native.Mathlib.Omega.{arith}
 use borrow.Author.Needs.{needs}
 use lib.Dec.{le→leb}
-use lib.Ieee.{inFloat, nanBits}
+use lib.Ieee.{inFloat}
 use Rattle.jxl_bitstream.specs.Half.{magnitude}
-use Rattle.jxl_bitstream.proofs.Halves.{computed-bits, signed-zero}
+use Rattle.jxl_bitstream.proofs.Halves.{computed-bits, no-nan}
 use Rattle.jxl_bitstream.proofs.bitstream.subnormal.Statement.{statement}
 use Rattle.jxl_bitstream.proofs.bitstream.subnormal.Tie as tie
 
@@ -17,8 +17,7 @@ mul-result : tie.Need-mul-result
 mul-result c = search needs
 
 float-from-bits-result : tie.Need-float-from-bits-result
-unfolding nanBits
-float-from-bits-result c = signed-zero (c .before .args .sign) (c .before .pre .0)
+float-from-bits-result c = no-nan _ (λ e. omega arith)
 
 returns : tie.Need-returns
 unfolding magnitude
