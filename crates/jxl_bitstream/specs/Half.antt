@@ -19,7 +19,7 @@ units zero m = m
 units (suc e) m = (1024 + m) * 2 ^ e
 
 -- The f32's bits without its sign. A mantissa alone is moved up until its highest digit is the one that an f32 leaves out;
--- 0 stays 0. (`proofs/Exact.antt`: these bits are exactly that many units.)
+-- 0 stays 0. (`exact` of `proofs/Halves.antt`: these bits are exactly that many units.)
 unfoldable pub magnitude : ℕ → ℕ → ℕ
 magnitude zero m = cond (eqb m 0) 0 ((101 + size m) * 2 ^ 23 + m * 2 ^ (24 - size m))
 magnitude (suc e) m = (113 + e) * 2 ^ 23 + m * 2 ^ 13
