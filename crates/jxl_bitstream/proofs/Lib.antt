@@ -1,1 +1,10 @@
 pub mod Unpack
+pub mod Numbers
+pub mod Order
+pub mod Parts
+pub mod Readers
+pub mod Choices
+pub mod Chunks
+pub mod Lists
+pub mod Halves
+pub mod Unique

@@ -1,4 +1,24 @@
 // JPEG XL fields. `unpack_signed` stands here, as in the Rust's lib.rs.
+mod bitstream;
+
+pub use bitstream::Moved;
+pub use bitstream::ReadBool;
+pub use bitstream::ReadF16;
+pub use bitstream::ReadU32;
+pub use bitstream::ReadU64;
+pub use bitstream::Refusal;
+pub use bitstream::U32Specifier;
+pub use bitstream::consume_bits;
+pub use bitstream::num_read_bits;
+pub use bitstream::peek_bits;
+pub use bitstream::read_bits;
+pub use bitstream::read_bool;
+pub use bitstream::read_enum;
+pub use bitstream::read_f16_as_f32;
+pub use bitstream::read_u32;
+pub use bitstream::read_u64;
+pub use bitstream::skip_bits;
+pub use bitstream::zero_pad_to_byte;
 ghost use mathlib.Core.Path.{_≡_};
 ghost use Rattle.jxl_bitstream.specs.UnpackSigned.{unpacked};
 

@@ -1,0 +1,259 @@
+// Field calls and their answers as lines of text, one call a line, in the language of the stored list of the Rust's answers.
+ghost use mathlib.Core.Path.{_≡_};
+ghost use Prim.Native.Nat.{_%_, _^_, _≤_, _<_};
+ghost use lib.ListN.{length};
+use jxl_bitstream::Moved;
+use jxl_bitstream::ReadBool;
+use jxl_bitstream::ReadF16;
+use jxl_bitstream::ReadU32;
+use jxl_bitstream::ReadU64;
+use jxl_bitstream::Refusal;
+use jxl_bitstream::U32Specifier;
+use replay_text::byte_at;
+use replay_text::digit;
+use replay_text::parse_decimal;
+use replay_text::put_byte;
+use replay_text::put_bytes;
+use replay_text::put_decimal;
+use replay_text::put_hex8;
+use std::num::wrapping_add_usize;
+
+// How long the answer's text is, and the position after the call.
+pub struct Put {
+    pub len: usize,
+    pub at: usize,
+}
+
+struct Choice {
+    d: U32Specifier,
+    next: usize,
+}
+
+fn put_place(out: &mut [u8], from: usize, at: usize) -> Put {
+    let q = put_byte(out, from, b' ');
+    Put {
+        len: put_decimal(out, q, at as u64),
+        at,
+    }
+}
+
+fn put_name(out: &mut [u8], r: Refusal) -> usize {
+    match r {
+        Refusal::UnexpectedEof => put_bytes(out, 0, b"eof"),
+        Refusal::NonZeroPadding => put_bytes(out, 0, b"pad"),
+        Refusal::InvalidFloat => put_bytes(out, 0, b"float"),
+        Refusal::InvalidEnum(v) => {
+            let q = put_bytes(out, 0, b"enum ");
+            put_decimal(out, q, v as u64)
+        }
+        Refusal::Width => put_bytes(out, 0, b"width"),
+        Refusal::TooLong => put_bytes(out, 0, b"long"),
+    }
+}
+
+fn put_refusal(out: &mut [u8], r: Refusal, at: usize) -> Put {
+    let q = put_name(out, r);
+    put_place(out, q, at)
+}
+
+fn put_u32(out: &mut [u8], a: ReadU32) -> Put {
+    match a {
+        ReadU32::Value(v, p) => {
+            let q = put_decimal(out, 0, v as u64);
+            put_place(out, q, p)
+        }
+        ReadU32::Refused(r, p) => put_refusal(out, r, p),
+    }
+}
+
+fn put_u64(out: &mut [u8], a: ReadU64) -> Put {
+    match a {
+        ReadU64::Value(v, p) => {
+            let q = put_decimal(out, 0, v);
+            put_place(out, q, p)
+        }
+        ReadU64::Refused(r, p) => put_refusal(out, r, p),
+    }
+}
+
+fn put_bool(out: &mut [u8], a: ReadBool) -> Put {
+    match a {
+        ReadBool::Value(v, p) => {
+            let q = put_decimal(out, 0, v as u64);
+            put_place(out, q, p)
+        }
+        ReadBool::Refused(r, p) => put_refusal(out, r, p),
+    }
+}
+
+fn put_moved(out: &mut [u8], a: Moved) -> Put {
+    match a {
+        Moved::To(p) => Put {
+            len: put_decimal(out, 0, p as u64),
+            at: p,
+        },
+        Moved::Refused(r, p) => put_refusal(out, r, p),
+    }
+}
+
+// The f32's bits, or the refusal.
+fn f16_bits(s: &[u8], at: usize) -> ReadU32 {
+    match jxl_bitstream::read_f16_as_f32(s, at) {
+        ReadF16::Value(x, p) => ReadU32::Value(f32::to_bits(x), p),
+        ReadF16::UnexpectedEof(p) => ReadU32::Refused(Refusal::UnexpectedEof, p),
+        ReadF16::InvalidFloat(p) => ReadU32::Refused(Refusal::InvalidFloat, p),
+        ReadF16::TooLong(p) => ReadU32::Refused(Refusal::TooLong, p),
+    }
+}
+
+fn put_f16(out: &mut [u8], a: ReadU32) -> Put {
+    match a {
+        ReadU32::Value(v, p) => {
+            let q = put_hex8(out, 0, v);
+            put_place(out, q, p)
+        }
+        ReadU32::Refused(r, p) => put_refusal(out, r, p),
+    }
+}
+
+// The f32's bits of a code, or all ones where it is refused.
+fn code_bits(code: u32) -> u32 {
+    let b = [(code % 256) as u8, (code / 256 % 256) as u8];
+    match f16_bits(&b, 0) {
+        ReadU32::Value(v, _) => v,
+        ReadU32::Refused(_, _) => 0xffff_ffff,
+    }
+}
+
+// The checksum of the 1,024 codes with these six highest bits.
+fn checksum(top: u32) -> u32
+    requires { ⌜ top < 64 ⌝ }
+{
+    let mut h: u64 = 0;
+    let mut m: u32 = 0;
+    while m < 1024 {
+        h = (h * 31 + code_bits(top * 1024 + m) as u64) % 4294967291;
+        m += 1;
+    }
+    (h % 4294967291) as u32
+}
+
+fn constant(x: u64) -> u32
+    ensures { λ r. ⌜ r ≡ x % 2 ^ 32 ⌝ }
+{
+    (x % 0x1_0000_0000) as u32
+}
+
+// `c` and a constant, or an offset, a `+` and a width.
+fn parse_choice(line: &[u8], at: usize) -> Choice {
+    if byte_at(line, at) == b'c' {
+        let c = parse_decimal(line, wrapping_add_usize(at, 1));
+        return Choice {
+            d: U32Specifier::Constant(constant(c.value)),
+            next: wrapping_add_usize(c.next, 1),
+        };
+    }
+    let offset = parse_decimal(line, at);
+    let width = parse_decimal(line, wrapping_add_usize(offset.next, 1));
+    Choice {
+        d: U32Specifier::BitsOffset(constant(offset.value), width.value as usize),
+        next: wrapping_add_usize(width.next, 1),
+    }
+}
+
+fn call_u32(s: &[u8], at: usize, line: &[u8]) -> ReadU32 {
+    let a = parse_choice(line, 2);
+    let b = parse_choice(line, a.next);
+    let c = parse_choice(line, b.next);
+    let d = parse_choice(line, c.next);
+    let one = a.d;
+    let two = b.d;
+    let three = c.d;
+    let four = d.d;
+    jxl_bitstream::read_u32(s, at, [one, two, three, four])
+}
+
+// The numbers of a list with commas; `-` is the empty one.
+fn fill_list(list: &mut [u32], line: &[u8]) -> usize
+    ensures { λ r. ⌜ r ≤ length (now (list .entry)) ⌝ }
+{
+    if byte_at(line, 2) == b'-' {
+        return 0;
+    }
+    let mut n = 0;
+    let mut p = 2;
+    while n < list.len() {
+        let x = parse_decimal(line, p);
+        list[n] = constant(x.value);
+        n += 1;
+        if byte_at(line, x.next) != b',' {
+            return n;
+        }
+        p = wrapping_add_usize(x.next, 1);
+    }
+    n
+}
+
+fn call_enum(s: &[u8], at: usize, line: &[u8]) -> ReadU32 {
+    let mut list = [0u32; 16];
+    let n = fill_list(&mut list, line);
+    jxl_bitstream::read_enum(s, at, &list[..n])
+}
+
+fn number(line: &[u8]) -> usize {
+    let n = parse_decimal(line, 2);
+    n.value as usize
+}
+
+// The calls that take a number.
+fn answer_with(out: &mut [u8], s: &[u8], at: usize, op: u8, n: usize) -> Put {
+    match op {
+        b'k' => put_u32(out, jxl_bitstream::peek_bits(s, at, n)),
+        b'r' => put_u32(out, jxl_bitstream::read_bits(s, at, n)),
+        b'c' => put_moved(out, jxl_bitstream::consume_bits(s, at, n)),
+        b's' => put_moved(out, jxl_bitstream::skip_bits(s, at, n)),
+        _ => Put {
+            len: put_hex8(out, 0, checksum(constant(n as u64 % 64))),
+            at,
+        },
+    }
+}
+
+// The others.
+fn answer(out: &mut [u8], s: &[u8], at: usize, op: u8, line: &[u8]) -> Put {
+    match op {
+        b'z' => put_moved(out, jxl_bitstream::zero_pad_to_byte(s, at)),
+        b'b' => put_bool(out, jxl_bitstream::read_bool(s, at)),
+        b'w' => put_u32(out, call_u32(s, at, line)),
+        b'q' => put_u64(out, jxl_bitstream::read_u64(s, at)),
+        b'e' => put_u32(out, call_enum(s, at, line)),
+        b'f' => put_f16(out, f16_bits(s, at)),
+        _ => answer_with(out, s, at, op, number(line)),
+    }
+}
+
+// The bytes of a line that makes a buffer: two hexadecimal digits each, from the third place on.
+fn fill_bytes(bytes: &mut [u8], line: &[u8]) -> usize
+    ensures { λ r. ⌜ r ≤ length (now (bytes .entry)) ⌝ }
+{
+    let mut n = 0;
+    let mut p = 2;
+    while n < bytes.len() {
+        let high = byte_at(line, p);
+        let low = byte_at(line, wrapping_add_usize(p, 1));
+        if high < 48 {
+            return n;
+        }
+        bytes[n] = (digit(high) % 16 * 16 + digit(low) % 16) as u8;
+        n += 1;
+        p = wrapping_add_usize(p, 2);
+    }
+    n
+}
+
+// Runs the call of a line at a position of the buffer that another line made, and puts the answer's text into `out`.
+pub fn run(buffer: &[u8], at: usize, line: &[u8], out: &mut [u8]) -> Put {
+    let mut bytes = [0u8; 32];
+    let n = fill_bytes(&mut bytes, buffer);
+    answer(out, &bytes[..n], at, byte_at(line, 0), line)
+}

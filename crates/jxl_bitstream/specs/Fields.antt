@@ -1,0 +1,126 @@
+-- The fields, as document 01 has them.
+use mathlib.Core.Bool.{Bool, true, false, cond, _||_}
+use mathlib.Core.List.{List, [], _∷_}
+use Prim.Native.Nat.{ℕ, _+_, _-_, _*_, _%_, _^_, min}
+use lib.Dec.{ltb, leb, eqb}
+use lib.Ieee.{Float, binary32, ofBits}
+use lib.ListN.{length, getD}
+use Rattle.jxl_bitstream.specs.Answer.{Field, gives, refuses, _>>=_, done, refuse}
+use Rattle.jxl_bitstream.specs.Bits.{bits, end}
+use Rattle.jxl_bitstream.specs.Half.{exponent, pattern}
+use Rattle.jxl_bitstream.specs.Refusals.{eof, padding, float, enum, width, long}
+use Rattle.jxl_bitstream.specs.declared.bitstream.U32Specifier.the-variants.{Constant, BitsOffset}
+use Rattle.jxl_bitstream.specs.declared.bitstream.U32Specifier.{U32Specifier}
+
+-- Order for fields: 8, 7, then the reading. A position beyond the end is moved to the end first, unless 8 or 7 is given.
+unfoldable pub begin : Bool → Field (Unit {0})
+begin wide s at =
+    cond (ltb (2 ^ 61 - 1) (length s)) (refuses long [] at)
+    (cond wide (refuses width [] at)
+    (gives tt (min at (end s))))
+
+abbrev pub over : ℕ → Bool
+over n = ltb 32 n
+
+-- A field part: n bits. Needs more bits than are left: refusal 3, the reader after the parts already read.
+unfoldable pub part : ℕ → Field ℕ
+part n s at = cond (leb (at + n) (end s)) (gives (bits s at n) (at + n)) (refuses eof [] at)
+
+-- Read n, 0 to 32.
+unfoldable pub read : ℕ → Field ℕ
+read n = begin (over n) >>= λ _. part n
+
+-- Peek is the same with missing bits as 0, nothing consumed, never refusal 3.
+abbrev pub look : ℕ → Field ℕ
+look n s at = gives (bits s at n) at
+
+unfoldable pub peek : ℕ → Field ℕ
+peek n = begin (over n) >>= λ _. look n
+
+-- Consume n and skip n move on by n if that many bits are left; else refusal 3, which leaves the reader at `stop`.
+unfoldable pub move : ℕ → ℕ → Field (Unit {0})
+move n stop s at = cond (leb (at + n) (end s)) (gives tt (at + n)) (refuses eof [] stop)
+
+-- Consume refuses 3 and stays.
+unfoldable pub consume : ℕ → Field (Unit {0})
+consume n = begin (over n) >>= λ _ s at. move n at s at
+
+-- A skip that is too long goes to the end and refuses 3. Skip has no width limit.
+unfoldable pub skip : ℕ → Field (Unit {0})
+skip n = begin false >>= λ _ s at. move n (end s) s at
+
+-- Pad: the 0 to 7 bits up to the next byte boundary. Not all 0: refusal 4, the reader after them.
+abbrev pub toByte : ℕ → ℕ
+toByte at = (8 - at % 8) % 8
+
+abbrev pub zeros : Field (Unit {0})
+zeros s at = (part (toByte at) >>= λ x. cond (eqb x 0) (done tt) (refuse padding [])) s at
+
+unfoldable pub pad : Field (Unit {0})
+pad = begin false >>= λ _. zeros
+
+-- Bool: 1 bit; 1 is true.
+unfoldable pub bool : Field Bool
+bool = read 1 >>= λ x. done (eqb x 1)
+
+-- U32: 2 selector bits choose one of four choices; a choice is a constant, or an offset and a width. The sum is taken modulo 2^32.
+abbrev pub choice : U32Specifier → Field ℕ
+choice (Constant c) = done c
+choice (BitsOffset o n) = part n >>= λ x. done ((x + o) % 2 ^ 32)
+
+abbrev pub chosen : List U32Specifier → ℕ → U32Specifier
+chosen d k = getD d k (Constant 0)
+
+unfoldable pub select : List U32Specifier → Field ℕ
+select d = part 2 >>= λ k. choice (chosen d k)
+
+abbrev pub wide : U32Specifier → Bool
+wide (Constant c) = false
+wide (BitsOffset o n) = over n
+
+-- U32 looks at all four widths before its selector.
+unfoldable pub anyWide : List U32Specifier → Bool
+anyWide d = wide (chosen d 0) || wide (chosen d 1) || wide (chosen d 2) || wide (chosen d 3)
+
+unfoldable pub u32 : List U32Specifier → Field ℕ
+u32 d = begin (anyWide d) >>= λ _. select d
+
+-- U64, selector 3: while a 1 bit follows, 8 bits placed at each of these places in turn; after them 4 bits at 60, and stop with no further flag.
+abbrev pub places : List ℕ
+places = 12 ∷ 20 ∷ 28 ∷ 36 ∷ 44 ∷ 52 ∷ []
+
+unfoldable pub chunks : List ℕ → ℕ → Field ℕ
+chunks [] v = part 1 >>= λ flag. cond (eqb flag 1) (part 4 >>= λ x. done (v + x * 2 ^ 60)) (done v)
+chunks (p ∷ ps) v = part 1 >>= λ flag. cond (eqb flag 1) (part 8 >>= λ x. chunks ps (v + x * 2 ^ p)) (done v)
+
+abbrev pub plus : ℕ → ℕ → Field ℕ
+plus n offset = part n >>= λ x. done (offset + x)
+
+-- Selector 0: 0. 1: 1 + 4 bits. 2: 17 + 8 bits. 3: 12 bits, then the chunks.
+abbrev pub u64By : ℕ → Field ℕ
+u64By k =
+    cond (eqb k 0) (done 0)
+    (cond (eqb k 1) (plus 4 1)
+    (cond (eqb k 2) (plus 8 17)
+    (part 12 >>= λ x. chunks places x)))
+
+unfoldable pub u64 : Field ℕ
+u64 = begin false >>= λ _. part 2 >>= λ k. u64By k
+
+-- Enum: U32 of 0, 1, 2 + 4 bits, 18 + 6 bits, then the list. Not in the caller's list: refusal 6, and the value is told.
+abbrev pub four : List U32Specifier
+four = Constant 0 ∷ Constant 1 ∷ BitsOffset 2 4 ∷ BitsOffset 18 6 ∷ []
+
+unfoldable pub member : ℕ → List ℕ → Bool
+member v [] = false
+member v (x ∷ xs) = eqb x v || member v xs
+
+unfoldable pub enumOf : List ℕ → Field ℕ
+enumOf list = u32 four >>= λ v. cond (member v list) (done v) (refuse enum (v ∷ []))
+
+-- F16: exponent 31 is refusal 5, the reader after 16 bits; else the f32 with those bits.
+unfoldable pub half : ℕ → Field Float
+half v = cond (eqb (exponent v) 31) (refuse float []) (done (ofBits binary32 (pattern v)))
+
+unfoldable pub f16 : Field Float
+f16 = begin false >>= λ _. part 16 >>= half
