@@ -1,0 +1,97 @@
+-- The starred worked pieces of document 01, boxes and fields: one table under one statement about the definitions, computed once.
+use mathlib.Core.Path.{_≡_, refl}
+use mathlib.Core.Bool.{true, false}
+use mathlib.Core.List.{List, [], _∷_, _++_}
+use Prim.Native.Nat.{ℕ, _-_, _^_}
+use lib.Ieee.{binary32, ofBits}
+use Rattle.jxl_container.specs.Signature.{signatureOf, containerSig}
+use Rattle.jxl_container.specs.Header.{headerOf, extended}
+use Rattle.jxl_container.specs.declared.BitstreamKind.the-variants as K
+use Rattle.jxl_container.specs.declared.parse.Event.{Event}
+use Rattle.jxl_container.specs.declared.parse.Event.the-variants as E
+use Rattle.jxl_files.specs.Grammar.{Listing, Stop, want, refused, file, boxes}
+use Rattle.jxl_bitstream.specs.Answer.{gives}
+use Rattle.jxl_bitstream.specs.Bits.{number, bits}
+use Rattle.jxl_bitstream.specs.Fields.{begin, part, select, anyWide, chunks, half, u32, u64, f16}
+use Rattle.jxl_bitstream.specs.Half.{units, magnitude, pattern}
+use Rattle.jxl_bitstream.specs.declared.bitstream.U32Specifier.{U32Specifier}
+use Rattle.jxl_bitstream.specs.declared.bitstream.U32Specifier.the-variants.{Constant, BitsOffset}
+
+-- a box header: a size under 256, and a type
+abbrev pub header : ℕ → List ℕ → List ℕ
+header size type = 0 ∷ 0 ∷ 0 ∷ size ∷ type
+
+abbrev pub jxlc : List ℕ
+jxlc = 0x6a ∷ 0x78 ∷ 0x6c ∷ 0x63 ∷ []
+
+abbrev pub jxlp : List ℕ
+jxlp = 0x6a ∷ 0x78 ∷ 0x6c ∷ 0x70 ∷ []
+
+abbrev pub brob : List ℕ
+brob = 0x62 ∷ 0x72 ∷ 0x6f ∷ 0x62 ∷ []
+
+abbrev pub exif : List ℕ
+exif = 0x45 ∷ 0x78 ∷ 0x69 ∷ 0x66 ∷ []
+
+abbrev pub exifType : ℕ
+exifType = 0x45786966
+
+-- a container: S, and what follows it
+abbrev pub S : List ℕ → List ℕ
+S s = containerSig ++ s
+
+abbrev pub says : List Event → ℕ → Stop → Listing
+says es n w = record { events = es; consumed = n; stop = w }
+
+pub data Piece : Type 0 where
+  -- a file and its listing
+  lists : List ℕ → Listing → Piece
+  -- bytes, the four choices, the value, and the position then
+  readsU32 : List ℕ → List U32Specifier → ℕ → ℕ → Piece
+  readsU64 : List ℕ → ℕ → ℕ → Piece
+  -- bytes, and the bits of the f32
+  readsF16 : List ℕ → ℕ → Piece
+
+abbrev pub Holds : List Piece → Type 0
+Holds [] = Unit {0}
+Holds (lists s l ∷ ps) = (file s ≡ l) × Holds ps
+Holds (readsU32 s d v at ∷ ps) = (u32 d s 0 ≡ gives v at) × Holds ps
+Holds (readsU64 s v at ∷ ps) = (u64 s 0 ≡ gives v at) × Holds ps
+Holds (readsF16 s b ∷ ps) = (f16 s 0 ≡ gives (ofBits binary32 b) 16) × Holds ps
+
+abbrev pub table : List Piece
+table =
+    -- empty: WANT. FF: WANT, 0 consumed
+    lists [] (says [] 0 want)
+    ∷ lists (0xff ∷ []) (says [] 0 want)
+    -- FF 0A: KIND bare, NO_MORE_AUX, CODESTREAM of 2 bytes
+    ∷ lists (0xff ∷ 0x0a ∷ []) (says (E.Kind K.BareCodestream ∷ E.NoMoreAux ∷ E.Codestream 0 2 ∷ []) 2 want)
+    -- 01: KIND invalid, NO_MORE_AUX, CODESTREAM of 1 byte
+    ∷ lists (0x01 ∷ []) (says (E.Kind K.Invalid ∷ E.NoMoreAux ∷ E.Codestream 0 1 ∷ []) 1 want)
+    -- S, 00 00 00 08 jxlc: KIND only, 20 consumed. One 00 more: an empty CODESTREAM, then WANT with 1 unread
+    ∷ lists (S (header 8 jxlc)) (says (E.Kind K.Container ∷ []) 20 want)
+    ∷ lists (S (header 8 jxlc ++ (0 ∷ []))) (says (E.Kind K.Container ∷ E.Codestream 20 0 ∷ []) 20 want)
+    -- S, 00 00 00 07 Exif: refusal 1, 12 consumed. Size 8: AUX_START
+    ∷ lists (S (header 7 exif)) (says (E.Kind K.Container ∷ []) 12 (refused 1))
+    ∷ lists (S (header 8 exif)) (says (E.Kind K.Container ∷ E.AuxStart exifType false false ∷ []) 20 want)
+    -- S, jxlp of size 11: refusal 1, 20 consumed. Size 12, first index 1: refusal 1, 24 consumed. Index 80 00 00 00: accepted, last
+    ∷ lists (S (header 11 jxlp)) (says (E.Kind K.Container ∷ []) 20 (refused 1))
+    ∷ lists (S (header 12 jxlp ++ (0 ∷ 0 ∷ 0 ∷ 1 ∷ []))) (says (E.Kind K.Container ∷ []) 24 (refused 1))
+    ∷ lists (S (header 12 jxlp ++ (0x80 ∷ 0 ∷ 0 ∷ 0 ∷ []))) (says (E.Kind K.Container ∷ []) 24 want)
+    ∷ lists (S (header 12 jxlp ++ (0x80 ∷ 0 ∷ 0 ∷ 0 ∷ header 12 jxlp))) (says (E.Kind K.Container ∷ E.Codestream 24 0 ∷ []) 32 (refused 1))
+    -- brob of size 12 with jxlc inside: refusal 2, 24 consumed. With Exif: AUX_START
+    ∷ lists (S (header 12 brob ++ jxlc)) (says (E.Kind K.Container ∷ []) 24 (refused 2))
+    ∷ lists (S (header 12 brob ++ exif)) (says (E.Kind K.Container ∷ E.AuxStart exifType true false ∷ []) 24 want)
+    -- byte 32 hex, U32 of 1, 2 bits, 3 + 4 bits, 19 + 8 bits: 15
+    ∷ readsU32 (0x32 ∷ []) (Constant 1 ∷ BitsOffset 0 2 ∷ BitsOffset 3 4 ∷ BitsOffset 19 8 ∷ []) 15 6
+    -- ten bytes FF, U64: 2^64 - 1 after 73 bits
+    ∷ readsU64 (0xff ∷ 0xff ∷ 0xff ∷ 0xff ∷ 0xff ∷ 0xff ∷ 0xff ∷ 0xff ∷ 0xff ∷ 0xff ∷ []) (2 ^ 64 - 1) 73
+    -- F16 3C00: f32 bits 3F800000. 7BFF: 477FE000
+    ∷ readsF16 (0x00 ∷ 0x3c ∷ []) 0x3f800000
+    ∷ readsF16 (0xff ∷ 0x7b ∷ []) 0x477fe000
+    ∷ []
+
+pub starred : Holds table
+unfolding file boxes signatureOf headerOf extended u32 u64 f16 begin part select anyWide chunks half number bits units magnitude pattern
+starred =
+    (refl, (refl, (refl, (refl, (refl, (refl, (refl, (refl, (refl, (refl, (refl, (refl, (refl, (refl, (refl, (refl, (refl, (refl, tt))))))))))))))))))
