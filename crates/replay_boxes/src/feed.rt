@@ -70,6 +70,26 @@ fn kind_after(event: Event, before: BitstreamKind) -> BitstreamKind {
     }
 }
 
+// A feed as a step leaves it: `consumed` bytes further on than `base`.
+fn stepped(
+    parser: ContainerParser,
+    base: usize,
+    consumed: usize,
+    told: BitstreamKind,
+    to: usize,
+    stopped: bool,
+    refused: bool,
+) -> Feed {
+    Feed {
+        parser,
+        consumed: std::num::wrapping_add_usize(base, consumed),
+        told,
+        to,
+        stopped,
+        refused,
+    }
+}
+
 // One step on the bytes of the file up to `end` that are not consumed.
 fn turn(out: &mut [u8], file: &[u8], end: usize, feed: Feed) -> Feed {
     let base = feed.consumed;
@@ -84,50 +104,41 @@ fn turn(out: &mut [u8], file: &[u8], end: usize, feed: Feed) -> Feed {
             consumed,
         } => {
             let shown = answer::event(out, to, event, base);
-            Feed {
-                parser: next,
-                consumed: std::num::wrapping_add_usize(base, consumed),
-                told: kind_after(event, told),
-                to: answer::rule(out, shown, is_payload(file, base, input, event)),
-                stopped: false,
-                refused: false,
-            }
+            let kept = answer::rule(out, shown, is_payload(file, base, input, event));
+            stepped(
+                next,
+                base,
+                consumed,
+                kind_after(event, told),
+                kept,
+                false,
+                false,
+            )
         }
-        Step::Want { next, consumed } => Feed {
-            parser: next,
-            consumed: std::num::wrapping_add_usize(base, consumed),
-            told,
-            to,
-            stopped: true,
-            refused: false,
-        },
+        Step::Want { next, consumed } => stepped(next, base, consumed, told, to, true, false),
         Step::Refused {
             refusal,
             next,
             consumed,
-        } => Feed {
-            parser: next,
-            consumed: std::num::wrapping_add_usize(base, consumed),
-            told,
-            to: answer::refusal(out, to, refusal),
-            stopped: true,
-            refused: true,
-        },
+        } => {
+            let shown = answer::refusal(out, to, refusal);
+            stepped(next, base, consumed, told, shown, true, true)
+        }
     }
 }
 
 // Steps up to WANT or a refusal. A proved loop has to end, and no file of the list has 128 events.
 fn steps(out: &mut [u8], file: &[u8], end: usize, feed: Feed) -> Feed {
-    let mut now = turn(out, file, end, feed);
+    let mut after = turn(out, file, end, feed);
     let mut turns: u32 = 0;
     while turns < 128 {
-        if now.stopped {
-            return now;
+        if after.stopped {
+            return after;
         }
-        now = turn(out, file, end, now);
+        after = turn(out, file, end, after);
         turns += 1;
     }
-    now
+    after
 }
 
 // Whether at most 15 bytes are unread, or the parser has refused.
@@ -153,14 +164,15 @@ fn packet(out: &mut [u8], file: &[u8], end: usize, before: Feed) -> Feed {
     let to = answer::packet_end(out, known, feed.consumed);
     let parser = feed.parser;
     let told = feed.told;
-    Feed {
+    stepped(
         parser,
-        consumed: feed.consumed,
+        feed.consumed,
+        0,
         told,
         to,
-        stopped: feed.stopped,
-        refused: feed.refused,
-    }
+        feed.stopped,
+        feed.refused,
+    )
 }
 
 // The file fed in packets of the lengths `cuts`, nothing after a refusal. The answer stands at the front of `out`, and its

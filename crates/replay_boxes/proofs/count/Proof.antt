@@ -1,3 +1,5 @@
+-- `count` is safe and ends: each turn passes a byte.
+-- Assumes nothing.
 use Prim.Native.Nat.{_-_}
 use lib.ListN.{length}
 use borrow.Author.Needs.{needs}

@@ -1,3 +1,5 @@
+-- `put_file` is safe and ends: each turn passes two digits, and the buffer keeps its length.
+-- Assumes nothing.
 use mathlib.Core.Path.{_≡_}
 use Prim.Native.Nat.{_-_}
 use lib.ListN.{length}

@@ -1,3 +1,5 @@
+-- `replay` is safe and ends: each turn passes a line, and the file's buffer keeps its 128 bytes.
+-- Assumes nothing.
 use mathlib.Core.Path.{_≡_}
 use Prim.Native.Nat.{_-_}
 use native.Mathlib.Omega.{arith}

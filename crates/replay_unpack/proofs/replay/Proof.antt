@@ -1,3 +1,5 @@
+-- `replay` is safe and ends: each turn passes a line.
+-- Assumes nothing.
 use Prim.Native.Nat.{_-_}
 use native.Mathlib.Omega.{arith}
 use lib.ListN.{length}

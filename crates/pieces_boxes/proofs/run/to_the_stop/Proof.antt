@@ -1,3 +1,5 @@
+-- `to_the_stop` is safe and ends: its turns are counted.
+-- Assumes nothing.
 use Prim.Native.Nat.{_-_}
 use borrow.Author.Needs.{needs}
 use Rattle.pieces_boxes.proofs.run.to_the_stop.Statement.{statement}

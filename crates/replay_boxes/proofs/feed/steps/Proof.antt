@@ -1,3 +1,5 @@
+-- `steps` is safe and ends: its turns are counted, and the buffer keeps its length.
+-- Assumes nothing.
 use mathlib.Core.Path.{_≡_}
 use Prim.Native.Nat.{_-_}
 use lib.ListN.{length}
@@ -6,10 +8,10 @@ use Rattle.replay_boxes.proofs.feed.steps.Statement.{statement}
 use Rattle.replay_boxes.proofs.feed.steps.Tie as tie
 
 abbrev Inv-loop : tie.InvT-loop
-Inv-loop out₀ file end now₀ turns₀ out now turns = length out ≡ length out₀
+Inv-loop out₀ file end after₀ turns₀ out after turns = length out ≡ length out₀
 
 abbrev μ-loop : tie.MeasureT-loop
-μ-loop out₀ file end now₀ turns₀ out now turns = 128 - turns
+μ-loop out₀ file end after₀ turns₀ out after turns = 128 - turns
 
 turn-requires : tie.Need-turn-requires Inv-loop μ-loop
 turn-requires c κs = search needs

@@ -1,3 +1,5 @@
+-- `whole` is safe and ends: each turn passes a cut, and the buffer keeps its length.
+-- Assumes nothing.
 use mathlib.Core.Path.{_≡_}
 use Prim.Native.Nat.{_-_}
 use native.Mathlib.Omega.{arith}
