@@ -1,0 +1,92 @@
+// What the steps show, in the words of the list, put one behind the other into a buffer.
+use jxl_container::BitstreamKind;
+use jxl_container::Refusal;
+use jxl_container::parse::Event;
+
+// Puts the first letter of a token, behind a space unless it is the first token.
+pub fn start(out: &mut [u8], to: usize, letter: u8) -> usize {
+    if to == 0 {
+        return replay_text::put_byte(out, to, letter);
+    }
+    let next = replay_text::put_byte(out, to, b' ');
+    replay_text::put_byte(out, next, letter)
+}
+
+// The letter of a kind; `u` for one that is not yet told.
+pub fn letter(kind: BitstreamKind) -> u8 {
+    match kind {
+        BitstreamKind::Unknown => b'u',
+        BitstreamKind::BareCodestream => b'b',
+        BitstreamKind::Container => b'c',
+        BitstreamKind::Invalid => b'i',
+    }
+}
+
+// Puts a payload's place in the file and its length.
+fn span(out: &mut [u8], to: usize, at: usize, len: usize) -> usize {
+    let mark = replay_text::put_byte(out, to, b'@');
+    let plus = replay_text::put_decimal(out, mark, at as u64);
+    let next = replay_text::put_byte(out, plus, b'+');
+    replay_text::put_decimal(out, next, len as u64)
+}
+
+// Puts a token that carries a type.
+fn typed(out: &mut [u8], to: usize, letter: u8, ty: u32) -> usize {
+    let next = start(out, to, letter);
+    replay_text::put_hex8(out, next, ty)
+}
+
+// Puts a comma and the first or the second letter.
+fn choice(out: &mut [u8], to: usize, first: bool, yes: u8, no: u8) -> usize {
+    let next = replay_text::put_byte(out, to, b',');
+    if first {
+        replay_text::put_byte(out, next, yes)
+    } else {
+        replay_text::put_byte(out, next, no)
+    }
+}
+
+// Puts an event of a step whose input starts at `base` of the file.
+pub fn event(out: &mut [u8], to: usize, shown: Event, base: usize) -> usize {
+    match shown {
+        Event::Kind(kind) => {
+            let next = start(out, to, b'K');
+            replay_text::put_byte(out, next, letter(kind))
+        }
+        Event::NoMoreAux => start(out, to, b'N'),
+        Event::Codestream { at, len } => {
+            let next = start(out, to, b'C');
+            span(out, next, std::num::wrapping_add_usize(base, at), len)
+        }
+        Event::AuxStart { ty, brotli, to_end } => {
+            let next = typed(out, to, b'S', ty);
+            let end = choice(out, next, brotli, b'c', b'p');
+            choice(out, end, to_end, b'e', b'b')
+        }
+        Event::AuxData { ty, at, len } => {
+            let next = typed(out, to, b'D', ty);
+            span(out, next, std::num::wrapping_add_usize(base, at), len)
+        }
+        Event::AuxEnd { ty } => typed(out, to, b'E', ty),
+    }
+}
+
+// Puts a refusal by its number.
+pub fn refusal(out: &mut [u8], to: usize, told: Refusal) -> usize {
+    let next = start(out, to, b'R');
+    match told {
+        Refusal::InvalidBox => replay_text::put_byte(out, next, b'1'),
+        Refusal::ValidationFailed => replay_text::put_byte(out, next, b'2'),
+    }
+}
+
+// Puts the end of a packet's feed: all bytes consumed so far.
+pub fn packet_end(out: &mut [u8], to: usize, consumed: usize) -> usize {
+    let next = start(out, to, b'|');
+    replay_text::put_decimal(out, next, consumed as u64)
+}
+
+// Puts a token that no line has, where `is_kept`, a rule that the list does not spell out, is broken.
+pub fn rule(out: &mut [u8], to: usize, is_kept: bool) -> usize {
+    if is_kept { to } else { start(out, to, b'!') }
+}

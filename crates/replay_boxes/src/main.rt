@@ -1,0 +1,123 @@
+// Replays the Rust's stored answers on boxes: each file of the list is fed in the packets of each of its lines, and every
+// event, count and refusal is compared with the line. Prints the numbers of the first lines that differ, then the counts.
+mod answer;
+mod feed;
+
+// The lines passed, the length of the newest file, the feedings compared, the answers in them, and the feedings that differ.
+struct Tally {
+    lines: u64,
+    file_len: usize,
+    feedings: u64,
+    answers: u64,
+    differ: u64,
+}
+
+// How many times `b` stands in `s`.
+fn count(s: &[u8], b: u8) -> u64 {
+    let mut n: u64 = 0;
+    let mut i = 0;
+    while i < s.len() {
+        if s[i] == b {
+            n = std::num::wrapping_add_u64(n, 1);
+        }
+        i += 1;
+    }
+    n
+}
+
+// How many answers a line's EVENTS are: they are parted by single spaces.
+fn answers_in(told: &[u8]) -> u64 {
+    std::num::wrapping_add_u64(count(told, b' '), 1)
+}
+
+// Puts the bytes of a line `f HEX` at the front of `file`, and answers how many there are.
+fn put_file(file: &mut [u8], line: &[u8]) -> usize {
+    let mut at = 0;
+    let mut i = 2;
+    while i < line.len() {
+        let byte = replay_text::parse_hex(feed::part(line, i, i + 2), 0);
+        at = replay_text::put_byte(file, at, (byte.value % 256) as u8);
+        i += 2;
+    }
+    at
+}
+
+// Prints the number of a line that differs, for the first ten.
+fn print_differs(line: u64, differ: u64) {
+    if differ < 10 {
+        io::write_all(1, b"line ");
+        io::print_decimal(1, line);
+        io::write_all(1, b" differs\n");
+    }
+}
+
+// Compares a line `CUTS = EVENTS` with what feeding the file in those packets gives.
+fn compare(line: &[u8], file: &[u8], tally: Tally) -> Tally {
+    let equals = replay_text::find(line, 0, b'=');
+    let cuts = feed::part(line, 0, std::num::wrapping_sub_usize(equals, 1));
+    let told = feed::part(line, std::num::wrapping_add_usize(equals, 2), line.len());
+    let mut out = [0u8; 1024];
+    let n = feed::whole(&mut out, file, cuts);
+    let mut differ = tally.differ;
+    if !check::same(feed::part(&out, 0, n), told) {
+        print_differs(std::num::wrapping_add_u64(tally.lines, 1), differ);
+        differ = std::num::wrapping_add_u64(differ, 1);
+    }
+    Tally {
+        lines: std::num::wrapping_add_u64(tally.lines, 1),
+        file_len: tally.file_len,
+        feedings: std::num::wrapping_add_u64(tally.feedings, 1),
+        answers: std::num::wrapping_add_u64(tally.answers, answers_in(told)),
+        differ,
+    }
+}
+
+// One line of the list: a new file, or a feeding of the newest.
+fn take_line(file: &mut [u8], line: &[u8], tally: Tally) -> Tally {
+    if replay_text::byte_at(line, 0) == b'f' {
+        return Tally {
+            lines: std::num::wrapping_add_u64(tally.lines, 1),
+            file_len: put_file(file, line),
+            feedings: tally.feedings,
+            answers: tally.answers,
+            differ: tally.differ,
+        };
+    }
+    compare(line, feed::part(file, 0, tally.file_len), tally)
+}
+
+// Goes through the list, line by line. A file of the list has at most 80 bytes.
+fn replay(text: &[u8]) -> Tally {
+    let mut file = [0u8; 128];
+    let mut tally = Tally {
+        lines: 0,
+        file_len: 0,
+        feedings: 0,
+        answers: 0,
+        differ: 0,
+    };
+    let mut at = 0;
+    while at < text.len() {
+        let end = replay_text::line_end(text, at);
+        tally = take_line(&mut file, feed::part(text, at, end), tally);
+        at = end + 1;
+    }
+    tally
+}
+
+// Room for the list. Made in a function of its own, so that no proof looks into its elements.
+fn room() -> [u8; 1048576] {
+    [0; 1048576]
+}
+
+fn main() {
+    let mut text = room();
+    let n = io::read_full(0, &mut text);
+    let tally = replay(&text[..n]);
+    io::print_decimal(1, tally.answers);
+    io::write_all(1, b" answers in ");
+    io::print_decimal(1, tally.feedings);
+    io::write_all(1, b" feedings compared, ");
+    io::print_decimal(1, tally.differ);
+    io::write_all(1, b" feedings differ\n");
+}
