@@ -1,5 +1,5 @@
 -- What each way through the tests of a box header says of the input.
-use mathlib.Core.Path.{_≡_, refl}
+use mathlib.Core.Path.{_≡_, refl, sym, ap, _∙_}
 use mathlib.Core.Bool.{Bool, true, false}
 use mathlib.Core.List.{List}
 use Prim.Native.Nat.{ℕ, _-_, _<_, _≤_}
@@ -8,10 +8,12 @@ use lib.Dec.{ltb, eqb}
 use lib.ListN.{length}
 use borrow.Author.Tests.{lt-ltb, le-ltb, eq-eqb, ne-eqb, ltb-true, ltb-false}
 use Rattle.jxl_container.specs.Bytes.{if, be32, be64}
-use Rattle.jxl_container.specs.Header.{Header, short, bad, box, headerOf, extended}
+use Rattle.jxl_container.specs.Header.{Header, short, bad, box, headerOf, extended, ToldHeader, numbered}
 use Rattle.jxl_container.specs.declared.Left.{Left}
 use Rattle.jxl_container.specs.declared.Left.the-variants.{ToEnd, Bytes}
-use Rattle.jxl_container.specs.declared.Refusal.the-variants.{InvalidBox}
+use Rattle.jxl_container.specs.Record.{number}
+use Rattle.jxl_container.specs.declared.Refusal.{Refusal}
+use Rattle.jxl_container.specs.declared.Refusal.the-variants.{InvalidBox, ValidationFailed}
 
 module _ (s : List ℕ) where
   pub extended-short : length s < 16 → extended s ≡ short
@@ -96,3 +98,28 @@ header-fits s e = rw e at (header-sized s)
 
 pub header-under : (s : List ℕ) → headerOf s ≡ short → length s < 16
 header-under s e = rw e at (header-sized s)
+
+-- each refusal has a number of its own
+pub number-one : (r q : Refusal) → number r ≡ number q → r ≡ q
+number-one InvalidBox InvalidBox e = refl
+number-one InvalidBox ValidationFailed e = absurd (omega arith)
+number-one ValidationFailed InvalidBox e = absurd (omega arith)
+number-one ValidationFailed ValidationFailed e = refl
+
+-- the number tells which refusal it is
+pub unnumbered : (g h : Header) → numbered g ≡ numbered h → g ≡ h
+unnumbered short short e = refl
+unnumbered short (bad r) e = cc
+unnumbered short (box t l n) e = cc
+unnumbered (bad r) short e = cc
+unnumbered (bad r) (bad q) e =
+    let same : number r ≡ number q = cc in
+    ap bad (number-one r q same)
+unnumbered (bad r) (box t l n) e = cc
+unnumbered (box t l n) short e = cc
+unnumbered (box t l n) (bad r) e = cc
+unnumbered (box t l n) (box u k m) e = cc
+
+-- what the code read is what the header says
+pub says : (s : List ℕ) (g : Header) {t : ToldHeader} → t ≡ numbered (headerOf s) → t ≡ numbered g → headerOf s ≡ g
+says s g e f = unnumbered (headerOf s) g (sym e ∙ f)

@@ -1,29 +1,20 @@
 -- Two answers that meet a promise are equal.
-use mathlib.Core.Path.{_≡_, refl, sym, _∙_}
+use mathlib.Core.Path.{_≡_, refl, sym, ap, _∙_}
 use mathlib.Core.List.{List}
 use Prim.Native.Nat.{ℕ}
-use native.Mathlib.Omega.{arith}
 use Rattle.jxl_container.specs.Record.{number, fresh, kindOf}
-use Rattle.jxl_container.specs.Header.{header, headerOf}
+use Rattle.jxl_container.specs.Header.{headerOf, numbered, toldHeader}
 use Rattle.jxl_container.specs.Step.{told, stepOf, payloadOf}
+use Rattle.jxl_container.proofs.Header.{number-one}
 use Rattle.jxl_container.specs.declared.BitstreamKind.{BitstreamKind}
 use Rattle.jxl_container.specs.declared.ContainerParser.{ContainerParser}
-use Rattle.jxl_container.specs.declared.Refusal.{Refusal}
-use Rattle.jxl_container.specs.declared.Refusal.the-variants.{InvalidBox, ValidationFailed}
 use Rattle.jxl_container.specs.declared.box_header.HeaderParseResult.{HeaderParseResult}
 use Rattle.jxl_container.specs.declared.box_header.HeaderParseResult.the-variants as H
 use Rattle.jxl_container.specs.declared.parse.Event.{Event}
 use Rattle.jxl_container.specs.declared.parse.Step.{Step}
 use Rattle.jxl_container.specs.declared.parse.Step.the-variants as A
 
--- each refusal has a number of its own
-number-one : (r q : Refusal) → number r ≡ number q → r ≡ q
-number-one InvalidBox InvalidBox e = refl
-number-one InvalidBox ValidationFailed e = absurd (omega arith)
-number-one ValidationFailed InvalidBox e = absurd (omega arith)
-number-one ValidationFailed ValidationFailed e = refl
-
-header-one : (x y : HeaderParseResult) → header x ≡ header y → x ≡ y
+header-one : (x y : HeaderParseResult) → toldHeader x ≡ toldHeader y → x ≡ y
 header-one (H.Done h n) (H.Done g m) e =
     let type : h .ty ≡ g .ty = cc in
     let size : h .«box_size» ≡ g .«box_size» = cc in
@@ -36,7 +27,9 @@ header-one H.NeedMoreData H.NeedMoreData e = refl
 header-one H.NeedMoreData (H.Refused r) e = cc
 header-one (H.Refused q) (H.Done g m) e = cc
 header-one (H.Refused q) H.NeedMoreData e = cc
-header-one (H.Refused q) (H.Refused r) e = cc
+header-one (H.Refused q) (H.Refused r) e =
+    let same : number q ≡ number r = cc in
+    ap H.Refused (number-one q r same)
 
 told-one : (x y : Step) → told x ≡ told y → x ≡ y
 told-one (A.Shown e p n) (A.Shown f q m) h = cc
@@ -52,7 +45,7 @@ told-one (A.Refused r p n) (A.Refused u q m) h =
     let name : r ≡ u = number-one r u same in
     cc
 
-pub one-header : (s : List ℕ) (x y : HeaderParseResult) → header x ≡ headerOf s → header y ≡ headerOf s → x ≡ y
+pub one-header : (s : List ℕ) (x y : HeaderParseResult) → toldHeader x ≡ numbered (headerOf s) → toldHeader y ≡ numbered (headerOf s) → x ≡ y
 one-header s x y p q = header-one x y (p ∙ sym q)
 
 pub one-step : (p : ContainerParser) (s : List ℕ) (x y : Step) → told x ≡ stepOf p s → told y ≡ stepOf p s → x ≡ y

@@ -4,6 +4,7 @@ use Prim.Native.Nat.{ℕ, _-_}
 use lib.Dec.{ltb, eqb}
 use lib.ListN.{length}
 use Rattle.jxl_container.specs.Bytes.{if, be32, be64}
+use Rattle.jxl_container.specs.Record.{number}
 use Rattle.jxl_container.specs.declared.Left.{Left}
 use Rattle.jxl_container.specs.declared.Left.the-variants.{ToEnd, Bytes}
 use Rattle.jxl_container.specs.declared.Refusal.{Refusal}
@@ -35,8 +36,19 @@ headerOf s =
     (if (ltb (be32 s 0) 8) (bad InvalidBox)
     (box (be32 s 4) (Bytes (be32 s 0 - 8)) 8))))
 
--- what an answer of the code says in these terms
-abbrev pub header : HeaderParseResult → Header
-header (Done h n) = box (h .ty) (h .«box_size») n
-header NeedMoreData = short
-header (Refused r) = bad r
+-- a header in the paper's words, a refusal by its number
+pub data ToldHeader : Type 0 where
+  wants : ToldHeader
+  refuses : ℕ → ToldHeader
+  reads : ℕ → Left → ℕ → ToldHeader
+
+abbrev pub numbered : Header → ToldHeader
+numbered short = wants
+numbered (bad r) = refuses (number r)
+numbered (box t l n) = reads t l n
+
+-- what an answer of the code says in these words
+abbrev pub toldHeader : HeaderParseResult → ToldHeader
+toldHeader (Done h n) = reads (h .ty) (h .«box_size») n
+toldHeader NeedMoreData = wants
+toldHeader (Refused r) = refuses (number r)

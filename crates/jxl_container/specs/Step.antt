@@ -64,7 +64,7 @@ ahead n (refuses r p c) = refuses r p (n + c)
 abbrev pub inCode : BitstreamKind → Left → Bool → JxlpIndexState → ContainerParser
 inCode k l pending j = at (S.InCodestream k l pending) j
 
--- after bare or invalid: NO_MORE_AUX, then all bytes as CODESTREAM, the first ones too
+-- KIND bare or invalid, nothing consumed; the record then has NO_MORE_AUX to tell, and all bytes as CODESTREAM, the first ones too
 abbrev pub bareStep : BitstreamKind → JxlpIndexState → Told
 bareStep k j = shows (E.Kind k) (inCode k ToEnd true j) 0
 
@@ -110,7 +110,8 @@ indexStep i l s =
     (ahead 4 (codeStep (row (be32 s 0) i) K.Container (less l 4) (toEnd l) (drop 4 s)))
     (refuse InvalidBox (at (S.WaitingJxlpIndex l) (Jxlp i)) 4))
 
--- a `brob` payload: 4 bytes of inner type (WANT below). A reserved type: refusal 2, the 4 bytes consumed. Else AUX_START with the inner type, compressed
+-- a `brob` payload: 4 bytes of inner type (WANT below). A reserved type: refusal 2, the 4 bytes consumed.
+-- Else AUX_START: the inner type, whether compressed, whether to the end
 unfoldable pub innerStep : JxlpIndexState → Left → List ℕ → Told
 innerStep j l s =
     if (ltb (length s) 4) (wants (at (S.WaitingInnerType l) j) 0)
@@ -157,14 +158,14 @@ headerStep j s short = wants (at S.WaitingBoxHeader j) 0
 headerStep j s (bad r) = refuse r (at S.WaitingBoxHeader j) 0
 headerStep j s (box t l n) = ahead n (boxStep j t l (drop n s))
 
--- the index awaited
+-- the index awaited; a record with no `jxlp` open awaits none, and is refused before this is asked
 abbrev pub awaited : JxlpIndexState → ℕ
 awaited Initial = 0
 awaited SingleJxlc = 0
 awaited (Jxlp i) = i
 awaited JxlpFinished = 0
 
--- a refused parser answers its refusal to every later feed, with 0 consumed
+-- by what the parser waits for or is inside of; a refused parser answers its refusal to every later feed, with 0 consumed
 abbrev pub stateStep : DetectState → JxlpIndexState → List ℕ → Told
 stateStep S.WaitingSignature j s = signatureStep j (signatureOf s)
 stateStep S.WaitingBoxHeader j s = headerStep j s (headerOf s)

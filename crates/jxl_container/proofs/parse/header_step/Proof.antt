@@ -1,7 +1,7 @@
 use mathlib.Core.Path.{_≡_, sym, ap, _∙_}
 use denote.Ref.{now}
-use Rattle.jxl_container.specs.Header.{header}
-use Rattle.jxl_container.proofs.Header.{header-fits}
+use Rattle.jxl_container.specs.Header.{short, bad, box, toldHeader}
+use Rattle.jxl_container.proofs.Header.{header-fits, says}
 use borrow.Author.Needs.{needs}
 use Rattle.jxl_container.proofs.parse.header_step.Statement.{statement}
 use Rattle.jxl_container.proofs.parse.header_step.Tie as tie
@@ -26,20 +26,20 @@ enum-known-header c = search needs
 
 box-step-requires : tie.Need-box-step-requires
 box-step-requires c κs =
-    (header-fits (now (c .before .before .before .before .before .before .args .s)) (sym (c .before .before .before .parse-header .ensures) ∙ ap header (c .before .header .given .1)) .1, c .before .before .before .before .before .before .pre)
+    (header-fits (now (c .before .before .before .before .before .before .args .s)) (says (now (c .before .before .before .before .before .before .args .s)) (box _ _ _) (c .before .before .before .parse-header .ensures) (ap toldHeader (c .before .header .given .1))) .1, c .before .before .before .before .before .before .pre)
 
 returns : tie.Need-returns
 returns c =
-    rw (sym (c .before .before .parse-header .ensures) ∙ ap header (c .enum-told .given .1), c .before .before .before .at .ensures)
+    rw (says (now (c .before .before .before .before .before .args .s)) short (c .before .before .parse-header .ensures) (ap toldHeader (c .enum-told .given .1)), c .before .before .before .at .ensures)
 
 returns-2 : tie.Need-returns-2
 returns-2 c =
     c .refuse .ensures
-    ∙ rw (sym (c .before .before .before .before .parse-header .ensures) ∙ ap header (c .before .before .refusal .given .1), c .before .before .before .before .before .at .ensures)
+    ∙ rw (says (now (c .before .before .before .before .before .before .before .args .s)) (bad (c .before .before .refusal .given .0 .0)) (c .before .before .before .before .parse-header .ensures) (ap toldHeader (c .before .before .refusal .given .1)), c .before .before .before .before .before .at .ensures)
 
 returns-3 : tie.Need-returns-3
 returns-3 c =
-    rw (sym (c .before .before .before .before .parse-header .ensures) ∙ ap header (c .before .before .header .given .1)) (c .box-step .ensures)
+    rw (says (now (c .before .before .before .before .before .before .before .args .s)) (box _ _ _) (c .before .before .before .before .parse-header .ensures) (ap toldHeader (c .before .before .header .given .1))) (c .box-step .ensures)
 
 pub header-step-spec : {M : Type 1} → statement M
 header-step-spec =
