@@ -1,0 +1,67 @@
+-- The text of a listing: of what was seen, and of a whole file.
+use mathlib.Core.List.{List, [], _∷_, _++_}
+use Prim.Native.Nat.{ℕ, _+_, _-_, _^_, min}
+use lib.Dec.{eqb, leb}
+use lib.ListN.{length}
+use Rattle.jxl_container.specs.Bytes.{if}
+use Rattle.jxl_container.specs.Step.{Told, shows, wants, refuses, shifted, stepOf}
+use Rattle.jxl_container.specs.declared.Refusal.{Refusal}
+use Rattle.jxl_container.specs.declared.Refusal.the-variants.{InvalidBox, ValidationFailed}
+use Rattle.jxl_container.specs.declared.ContainerParser.{ContainerParser}
+use Rattle.jxl_container.specs.declared.parse.Event.{Event}
+use Rattle.jxl_container.specs.declared.parse.Event.the-variants as E
+use Rattle.jxl_files.specs.Grammar.{Listing, file}
+use Rattle.jxl_files.specs.Grammar as G
+use Rattle.jxl_listing.specs.Lines.{text}
+use Rattle.jxl_listing.specs.Putting.{Outcome, leaves, pasted}
+use Rattle.jxl_listing.specs.declared.Line.{Line}
+use Rattle.jxl_listing.specs.declared.Line.the-variants as L
+use Rattle.jxl_listing.specs.declared.Stop.{Stop}
+use Rattle.jxl_listing.specs.declared.Stop.the-variants as S
+use Rattle.jxl_listing.specs.declared.Put.the-variants.{Written, NoRoom}
+use Rattle.jxl_turns.specs.declared.Next.{Next}
+use Rattle.jxl_turns.specs.declared.Next.the-variants as N
+
+-- the refusal of a number
+abbrev pub named : ℕ → Refusal
+named n = if (eqb n 1) InvalidBox ValidationFailed
+
+abbrev pub stopOf : G.Stop → Stop
+stopOf G.want = S.Want
+stopOf (G.refused n) = S.Refused (named n)
+
+abbrev pub texts : List Event → List ℕ
+texts [] = []
+texts (e ∷ es) = text (L.Shown e) ++ texts es
+
+-- a line for each event, and the stop
+abbrev pub listingText : Listing → List ℕ
+listingText l = texts (l .events) ++ text (L.Stopped (stopOf (l .stop)) (l .consumed))
+
+-- the listing of a whole file, which the grammar gives
+unfoldable pub fileText : List ℕ → List ℕ
+fileText s = listingText (file s)
+
+-- what comes next of an input that stands at `at`: an event with its place in the file, or the stop; and the record and the place then
+abbrev pub nextIn : ℕ → Told → Next
+nextIn at (shows e q c) = N.Shown (shifted at e) q (at + c)
+nextIn at (wants q c) = N.Stopped S.Want q (at + c)
+nextIn at (refuses n q c) = N.Stopped (S.Refused (named n)) q (at + c)
+
+abbrev pub nextOf : ContainerParser → ℕ → List ℕ → Next
+nextOf p at s = nextIn at (stepOf p s)
+
+-- the place of an event's payload
+abbrev pub placeOf : Event → ℕ
+placeOf (E.Kind k) = 0
+placeOf E.NoMoreAux = 0
+placeOf (E.Codestream a n) = a
+placeOf (E.AuxStart t b e) = 0
+placeOf (E.AuxData t a n) = a
+placeOf (E.AuxEnd t) = 0
+
+-- the listing put into a buffer if it fits; else the buffer stays as it was, and the room needed is told, at most the largest number of 64 bits
+unfoldable pub listOf : List ℕ → List ℕ → Outcome
+listOf d w =
+    if (leb (length w) (length d)) (leaves (Written (length w)) (pasted d 0 w))
+    (leaves (NoRoom (min (length w) (2 ^ 64 - 1))) d)
