@@ -1,0 +1,93 @@
+-- The lines of the listing: one record a line, fields parted by tabs, types in lower-case hex, numbers decimal.
+use mathlib.Core.Bool.{Bool, true, false}
+use mathlib.Core.List.{List, [], _∷_, _++_}
+use Prim.Native.Nat.{ℕ}
+use Rattle.jxl_container.specs.declared.BitstreamKind.{BitstreamKind}
+use Rattle.jxl_container.specs.declared.BitstreamKind.the-variants as K
+use Rattle.jxl_container.specs.declared.Refusal.the-variants.{InvalidBox, ValidationFailed}
+use Rattle.jxl_container.specs.declared.parse.Event.{Event}
+use Rattle.jxl_container.specs.declared.parse.Event.the-variants as E
+use Rattle.jxl_listing.specs.Digits.{hex8, decimal}
+use Rattle.jxl_listing.specs.declared.Stop.{Stop}
+use Rattle.jxl_listing.specs.declared.Stop.the-variants.{Want, Refused}
+use Rattle.jxl_listing.specs.declared.Line.{Line}
+use Rattle.jxl_listing.specs.declared.Line.the-variants.{Shown, Stopped}
+
+-- `kind`
+abbrev pub kind : List ℕ
+kind = 107 ∷ 105 ∷ 110 ∷ 100 ∷ []
+
+-- `start`
+abbrev pub start : List ℕ
+start = 115 ∷ 116 ∷ 97 ∷ 114 ∷ 116 ∷ []
+
+-- `data`
+abbrev pub part : List ℕ
+part = 100 ∷ 97 ∷ 116 ∷ 97 ∷ []
+
+-- `end`
+abbrev pub end : List ℕ
+end = 101 ∷ 110 ∷ 100 ∷ []
+
+-- `nomore`
+abbrev pub nomore : List ℕ
+nomore = 110 ∷ 111 ∷ 109 ∷ 111 ∷ 114 ∷ 101 ∷ []
+
+-- `code`
+abbrev pub code : List ℕ
+code = 99 ∷ 111 ∷ 100 ∷ 101 ∷ []
+
+-- `stop`
+abbrev pub stop : List ℕ
+stop = 115 ∷ 116 ∷ 111 ∷ 112 ∷ []
+
+-- `bare`, `container` or `invalid`; `unknown` for the value that no event has
+abbrev pub kindWord : BitstreamKind → List ℕ
+kindWord K.Unknown = 117 ∷ 110 ∷ 107 ∷ 110 ∷ 111 ∷ 119 ∷ 110 ∷ []
+kindWord K.BareCodestream = 98 ∷ 97 ∷ 114 ∷ 101 ∷ []
+kindWord K.Container = 99 ∷ 111 ∷ 110 ∷ 116 ∷ 97 ∷ 105 ∷ 110 ∷ 101 ∷ 114 ∷ []
+kindWord K.Invalid = 105 ∷ 110 ∷ 118 ∷ 97 ∷ 108 ∷ 105 ∷ 100 ∷ []
+
+-- whether a box is compressed: `brob`, or else `plain`
+abbrev pub brobWord : Bool → List ℕ
+brobWord true = 98 ∷ 114 ∷ 111 ∷ 98 ∷ []
+brobWord false = 112 ∷ 108 ∷ 97 ∷ 105 ∷ 110 ∷ []
+
+-- whether a box runs to the end: `toend`, or else `bounded`
+abbrev pub endWord : Bool → List ℕ
+endWord true = 116 ∷ 111 ∷ 101 ∷ 110 ∷ 100 ∷ []
+endWord false = 98 ∷ 111 ∷ 117 ∷ 110 ∷ 100 ∷ 101 ∷ 100 ∷ []
+
+-- `want`, `refused1` or `refused2`
+abbrev pub stopWord : Stop → List ℕ
+stopWord Want = 119 ∷ 97 ∷ 110 ∷ 116 ∷ []
+stopWord (Refused InvalidBox) = 114 ∷ 101 ∷ 102 ∷ 117 ∷ 115 ∷ 101 ∷ 100 ∷ 49 ∷ []
+stopWord (Refused ValidationFailed) = 114 ∷ 101 ∷ 102 ∷ 117 ∷ 115 ∷ 101 ∷ 100 ∷ 50 ∷ []
+
+-- the fields of an event's line
+abbrev pub eventFields : Event → List (List ℕ)
+eventFields (E.Kind k) = kind ∷ kindWord k ∷ []
+eventFields E.NoMoreAux = nomore ∷ []
+eventFields (E.Codestream a n) = code ∷ decimal a ∷ decimal n ∷ []
+eventFields (E.AuxStart t b e) = start ∷ hex8 t ∷ brobWord b ∷ endWord e ∷ []
+eventFields (E.AuxData t a n) = part ∷ hex8 t ∷ decimal a ∷ decimal n ∷ []
+eventFields (E.AuxEnd t) = end ∷ hex8 t ∷ []
+
+-- the fields of a line; the last number of a stop is the bytes consumed
+abbrev pub fields : Line → List (List ℕ)
+fields (Shown e) = eventFields e
+fields (Stopped s n) = stop ∷ stopWord s ∷ decimal n ∷ []
+
+-- what follows a field: a tab and the next field, or the line feed
+abbrev pub rest : List (List ℕ) → List ℕ
+rest [] = 10 ∷ []
+rest (f ∷ fs) = 9 ∷ (f ++ rest fs)
+
+-- fields parted by tabs, and a line feed
+abbrev pub joinedFields : List (List ℕ) → List ℕ
+joinedFields [] = 10 ∷ []
+joinedFields (f ∷ fs) = f ++ rest fs
+
+-- the bytes of a line
+abbrev pub text : Line → List ℕ
+text l = joinedFields (fields l)
