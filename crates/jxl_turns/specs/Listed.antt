@@ -19,8 +19,8 @@ use Rattle.jxl_listing.specs.declared.Line.the-variants as L
 use Rattle.jxl_listing.specs.declared.Stop.{Stop}
 use Rattle.jxl_listing.specs.declared.Stop.the-variants as S
 use Rattle.jxl_listing.specs.declared.Put.the-variants.{Written, NoRoom}
-use Rattle.jxl_turns.specs.declared.Next.{Next}
-use Rattle.jxl_turns.specs.declared.Next.the-variants as N
+use Rattle.jxl_turns.specs.declared.Following.{Following}
+use Rattle.jxl_turns.specs.declared.Following.the-variants as N
 
 -- the refusal of a number
 abbrev pub named : ℕ → Refusal
@@ -43,12 +43,12 @@ unfoldable pub fileText : List ℕ → List ℕ
 fileText s = listingText (file s)
 
 -- what comes next of an input that stands at `at`: an event with its place in the file, or the stop; and the record and the place then
-abbrev pub nextIn : ℕ → Told → Next
+abbrev pub nextIn : ℕ → Told → Following
 nextIn at (shows e q c) = N.Shown (shifted at e) q (at + c)
 nextIn at (wants q c) = N.Stopped S.Want q (at + c)
 nextIn at (refuses n q c) = N.Stopped (S.Refused (named n)) q (at + c)
 
-abbrev pub nextOf : ContainerParser → ℕ → List ℕ → Next
+abbrev pub nextOf : ContainerParser → ℕ → List ℕ → Following
 nextOf p at s = nextIn at (stepOf p s)
 
 -- the place of an event's payload

@@ -9,11 +9,12 @@ ghost use mathlib.Core.Path.{_≡_};
 ghost use Prim.Native.Nat.{_+_, _-_, _^_, _≤_, _<_, min};
 ghost use lib.ListN.{length, drop};
 ghost use Rattle.jxl_container.specs.Step.{shifted};
+ghost use Rattle.jxl_listing.specs.Lines.{text};
 ghost use Rattle.jxl_listing.specs.Putting.{leaves, pasted};
 ghost use Rattle.jxl_turns.specs.Listed.{fileText, listOf, nextOf, placeOf};
 
 // What comes next: an event with its place in the file, or the stop; and the record and the place then.
-pub enum Next {
+pub enum Following {
     Shown {
         event: Event,
         parser: ContainerParser,
@@ -46,7 +47,7 @@ fn place(event: Event, base: usize) -> Event
 }
 
 // One step on the file from `at` on.
-fn next(parser: ContainerParser, file: &[u8], at: usize) -> Next
+fn next(parser: ContainerParser, file: &[u8], at: usize) -> Following
     requires { ⌜ at ≤ length (now file) ⌝ }
     ensures { λ r. ⌜ r ≡ nextOf parser at (drop at (now (file .entry))) ⌝ }
 {
@@ -55,12 +56,12 @@ fn next(parser: ContainerParser, file: &[u8], at: usize) -> Next
             event,
             next,
             consumed,
-        } => Next::Shown {
+        } => Following::Shown {
             event: place(event, at),
             parser: next,
             at: at + consumed,
         },
-        Step::Want { next, consumed } => Next::Stopped {
+        Step::Want { next, consumed } => Following::Stopped {
             stop: Stop::Want,
             parser: next,
             at: at + consumed,
@@ -69,7 +70,7 @@ fn next(parser: ContainerParser, file: &[u8], at: usize) -> Next
             refusal,
             next,
             consumed,
-        } => Next::Stopped {
+        } => Following::Stopped {
             stop: Stop::Refused(refusal),
             parser: next,
             at: at + consumed,
@@ -97,7 +98,7 @@ fn measure(file: &[u8]) -> usize
     let mut total = 0;
     loop {
         match next(parser, file, at) {
-            Next::Shown {
+            Following::Shown {
                 event,
                 parser: then,
                 at: further,
@@ -106,13 +107,68 @@ fn measure(file: &[u8]) -> usize
                 parser = then;
                 at = further;
             }
-            Next::Stopped {
+            Following::Stopped {
                 stop,
                 parser: _,
                 at: consumed,
             } => {
-                return add(total, jxl_listing::line_length(Line::Stopped { stop, consumed }));
+                return add(
+                    total,
+                    jxl_listing::line_length(Line::Stopped { stop, consumed }),
+                );
             }
         }
     }
+}
+
+// Writes the listing of the file, for which there is room, and answers how many bytes it has.
+fn write(file: &[u8], out: &mut [u8]) -> usize
+    requires { ⌜ length (fileText (now file)) ≤ length (now out) ⌝ }
+    ensures { λ r. ⌜ (r ≡ length (fileText (now (file .entry)))) × (now (out .exit) ≡ pasted (now (out .entry)) 0 (fileText (now (file .entry)))) ⌝ }
+{
+    let mut parser = ContainerParser::new();
+    let mut at = 0;
+    let mut written = 0;
+    loop {
+        match next(parser, file, at) {
+            Following::Shown {
+                event,
+                parser: then,
+                at: further,
+            } => {
+                written = put(out, written, Line::Shown(event));
+                parser = then;
+                at = further;
+            }
+            Following::Stopped {
+                stop,
+                parser: _,
+                at: consumed,
+            } => {
+                return put(out, written, Line::Stopped { stop, consumed });
+            }
+        }
+    }
+}
+
+// Puts a line for which there is room, and answers where the next one goes.
+fn put(out: &mut [u8], at: usize, line: Line) -> usize
+    requires { ⌜ at + length (text line) ≤ length (now out) ⌝ }
+    ensures { λ r. ⌜ (r ≡ at + length (text line)) × (now (out .exit) ≡ pasted (now (out .entry)) at (text line)) ⌝ }
+{
+    match jxl_listing::put_line(out, at, line) {
+        Put::Written(next) => next,
+        Put::NoRoom(_) => at,
+    }
+}
+
+// The listing of a whole file in memory: all its lines at the front of `out`; or how much room they need, and `out` as it was.
+pub fn list_file(file: &[u8], out: &mut [u8]) -> Put
+    ensures { λ r. ⌜ leaves r (now (out .exit)) ≡ listOf (now (out .entry)) (fileText (now (file .entry))) ⌝ }
+{
+    let needed = measure(file);
+    if out.len() < needed {
+        return Put::NoRoom(needed);
+    }
+    Put::Written(write(file, out))
 }
