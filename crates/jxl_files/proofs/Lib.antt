@@ -1,3 +1,4 @@
+pub mod Never
 pub mod MoreInput
 pub mod Cut
 pub mod Sound
