@@ -8,3 +8,4 @@ pub mod Listed
 pub mod Theorems
 pub mod Payloads
 pub mod Joining
+pub mod KindLaws

@@ -110,7 +110,7 @@ cuts (x ∷ xs) w p at u i =
     (both .0, then .1, subst (λ (l : List ℕ). Takes p at l (both .0) (then .1)) (append-assoc u x (bytesOf xs)) (both .1), one-more (r .shown) (then .3) (both .2))
 
 -- a file fed whole
-whole-feed : (p : ContainerParser) (at : ℕ) (s : List ℕ) → feeding p at (s ∷ []) ≡ take p at s
+pub whole-feed : (p : ContainerParser) (at : ℕ) (s : List ℕ) → feeding p at (s ∷ []) ≡ take p at s
 unfolding fed
 whole-feed p at s = λ i. record { shown = append-nil (take p at s .shown) i; consumed = take p at s .consumed; stop = take p at s .stop; next = take p at s .next }
 

@@ -4,11 +4,14 @@ use mathlib.Core.Bool.{Bool, true, false}
 use mathlib.Core.List.{List, [], _∷_}
 use Prim.Native.Nat.{ℕ, _+_, _/_, _<_, _≤_, _^_}
 use lib.ListN.{length}
-use Rattle.jxl_container.specs.Record.{fresh, isRefused}
-use Rattle.jxl_container.specs.Step.{payloadOf}
+use Rattle.jxl_container.specs.Record.{fresh, isRefused, kindOf}
+use Rattle.jxl_container.specs.Step.{refuses, stepOf, payloadOf}
 use Rattle.jxl_container.specs.Laws.{Inside}
+use Rattle.jxl_container.specs.declared.BitstreamKind.{BitstreamKind}
+use Rattle.jxl_container.specs.declared.BitstreamKind.the-variants as K
 use Rattle.jxl_container.specs.declared.ContainerParser.{ContainerParser}
 use Rattle.jxl_container.specs.declared.parse.Event.{Event}
+use Rattle.jxl_container.specs.declared.parse.Event.the-variants as E
 use Rattle.jxl_files.specs.Grammar.{Stop, want, Listing, file}
 use Rattle.jxl_files.specs.Joined.{joined}
 use Rattle.jxl_files.specs.Joiner.{run, AllCounted}
@@ -88,6 +91,28 @@ EndsByItself = (p : ContainerParser) (at : ℕ) (s : List ℕ) → (u : List ℕ
 
 abbrev pub OneWay : Type 0
 OneWay = (p : ContainerParser) (at : ℕ) (s : List ℕ) (r : Seen) (u : List ℕ) → Takes p at s r u → take p at s ≡ r
+
+-- the kind that the first KIND tells; unknown before it
+abbrev pub kindTold : List Event → BitstreamKind
+kindTold [] = K.Unknown
+kindTold (E.Kind k ∷ es) = k
+kindTold (E.NoMoreAux ∷ es) = kindTold es
+kindTold (E.Codestream a n ∷ es) = kindTold es
+kindTold (E.AuxStart t b e ∷ es) = kindTold es
+kindTold (E.AuxData t a n ∷ es) = kindTold es
+kindTold (E.AuxEnd t ∷ es) = kindTold es
+
+-- kind: of a fresh parser fed any packets, the kind told on request is unknown before KIND, then KIND's
+abbrev pub KindIsTold : Type 0
+KindIsTold = (xs : List (List ℕ)) → kindOf (feeding fresh 0 xs .next) ≡ kindTold (events (feeding fresh 0 xs))
+
+-- and so the one that the grammar lists of the file
+abbrev pub KindOfAFile : Type 0
+KindOfAFile = (xs : List (List ℕ)) → kindOf (feeding fresh 0 xs .next) ≡ kindTold (file (bytesOf xs) .events)
+
+-- a refusal leaves the kind what it was; from any record, one that no file leads to as well
+abbrev pub RefusalKeepsKind : Type 0
+RefusalKeepsKind = (p : ContainerParser) (s : List ℕ) (n : ℕ) (q : ContainerParser) (c : ℕ) → stepOf p s ≡ refuses n q c → kindOf q ≡ kindOf p
 
 -- joiner: of events whose ends 64 bits can count, it hands back the joined ones
 abbrev pub JoinerJoins : Type 0
