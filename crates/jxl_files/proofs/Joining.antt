@@ -35,6 +35,14 @@ room-for n m h = go (leb m (18446744073709551615 - n)) refl
     go true e = e ∙ sym (lt-ltb (n + m) (2 ^ 64) (omega (arith, leb-true m (18446744073709551615 - n) e)))
     go false e = e ∙ sym (le-ltb (n + m) (2 ^ 64) (omega (arith, leb-false m (18446744073709551615 - n) e)))
 
+pub room-behind : (b a n : ℕ) → b < 2 ^ 64 → a ≤ 18446744073709551615 - b → leb n (18446744073709551615 - b - a) ≡ ltb (b + a + n) (2 ^ 64)
+room-behind b a n h k =
+    let room : 18446744073709551615 - b - a ≡ 18446744073709551615 - (b + a) = omega arith in
+    ap (λ (m : ℕ). leb n m) room ∙ room-for (b + a) n (omega arith)
+
+pub no-room : (b a n : ℕ) → b < 2 ^ 64 → 18446744073709551615 - b < a → false ≡ ltb (b + a + n) (2 ^ 64)
+no-room b a n h k = sym (le-ltb (b + a + n) (2 ^ 64) (omega arith))
+
 and-first : (t u : Bool) → and t u ≡ true → t ≡ true
 and-first true u e = refl
 and-first false u e = e

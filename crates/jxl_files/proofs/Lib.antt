@@ -9,3 +9,4 @@ pub mod Theorems
 pub mod Payloads
 pub mod Joining
 pub mod KindLaws
+pub mod Unique
