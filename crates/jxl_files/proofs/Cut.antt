@@ -35,6 +35,7 @@ use Rattle.jxl_container.specs.declared.ContainerParser.{ContainerParser}
 use Rattle.jxl_container.specs.declared.parse.Event.{Event}
 use Rattle.jxl_container.specs.declared.parse.Event.the-variants as E
 use Rattle.jxl_files.proofs.MoreInput.{be32-more, header-whole, signature-more}
+use Rattle.jxl_files.proofs.Never.{never}
 
 -- part `e` ends where c bytes are consumed; `f` at the front of what comes then goes on from there; `g` is the two in one
 pub data Grown : Event → ℕ → Event → Event → Type 0 where
@@ -281,36 +282,36 @@ module _ (j : JxlpIndexState) (o : overIndex j ≡ false) (l : Left) where
 module _ (j : JxlpIndexState) (o : overIndex j ≡ false) (a b : List ℕ) where
   cut-header : (h : Header) → headerOf a ≡ h → Cut a b (headerStep j (a ++ b) (headerOf (a ++ b))) (headerStep j a h)
   cut-header short e = waits (sym (ahead-zero (stepOf (at S.WaitingBoxHeader j) (a ++ b)) ∙ step-header j o (a ++ b)))
-  cut-header (bad r) e = rw (header-whole a b (λ q. let z : _≡_ {A = ℕ} 0 1 = cc in omega arith), e) (remains refl)
+  cut-header (bad r) e = rw (header-whole a b (λ q. never cc), e) (remains refl)
   cut-header (box t l n) e =
       let fits = header-fits a e in
-      rw (header-whole a b (λ q. let z : _≡_ {A = ℕ} 0 1 = cc in omega arith), e, behind n a b (fits .1))
+      rw (header-whole a b (λ q. never cc), e, behind n a b (fits .1))
       (cut-ahead n a b (fits .1) (cut-box j o l t (drop n a) b))
 
   cut-signature : (g : Signature) → signatureOf a ≡ g → (signatureOf a ≡ G.TooShort) ⊎ (signatureOf (a ++ b) ≡ signatureOf a)
       → Cut a b (signatureStep j (signatureOf (a ++ b))) (signatureStep j g)
   cut-signature G.TooShort e m = waits (sym (ahead-zero (stepOf (at S.WaitingSignature j) (a ++ b)) ∙ step-signature j o (a ++ b)))
-  cut-signature G.Bare e (inl s) = absurd (let z : _≡_ {A = ℕ} 0 1 = cc in omega arith)
+  cut-signature G.Bare e (inl s) = never cc
   cut-signature G.Bare e (inr s) = rw (s, e) (keeps refl)
-  cut-signature G.Container e (inl s) = absurd (let z : _≡_ {A = ℕ} 0 1 = cc in omega arith)
+  cut-signature G.Container e (inl s) = never cc
   cut-signature G.Container e (inr s) = rw (s, e) (keeps refl)
-  cut-signature G.Neither e (inl s) = absurd (let z : _≡_ {A = ℕ} 0 1 = cc in omega arith)
+  cut-signature G.Neither e (inl s) = never cc
   cut-signature G.Neither e (inr s) = rw (s, e) (keeps refl)
 
 pub or-false : (t : Bool) {u : Bool} → or t u ≡ false → (t ≡ false) × (u ≡ false)
-or-false true e = absurd (let z : _≡_ {A = ℕ} 0 1 = cc in omega arith)
+or-false true e = never (sym e)
 or-false false e = (refl, e)
 
 -- a record that a file leads to, with a byte there
 cut-state : (d : DetectState) (j : JxlpIndexState) (a b : List ℕ) → impossibleIn d j ≡ false → Cut a b (stateStep d j (a ++ b)) (stateStep d j a)
 cut-state S.WaitingSignature j a b o = cut-signature j o a b (signatureOf a) refl (signature-more a b)
 cut-state S.WaitingBoxHeader j a b o = cut-header j o a b (headerOf a) refl
-cut-state (S.WaitingJxlpIndex l) Initial a b o = absurd (let z : _≡_ {A = ℕ} 0 1 = cc in omega arith)
-cut-state (S.WaitingJxlpIndex l) SingleJxlc a b o = absurd (let z : _≡_ {A = ℕ} 0 1 = cc in omega arith)
+cut-state (S.WaitingJxlpIndex l) Initial a b o = never (sym o)
+cut-state (S.WaitingJxlpIndex l) SingleJxlc a b o = never (sym o)
 cut-state (S.WaitingJxlpIndex l) (Jxlp i) a b o =
     let both = or-false (ltb 0x80000000 i) o in
     cut-index i l (ltb-false 0x80000000 i (both .0)) (both .1) a b
-cut-state (S.WaitingJxlpIndex l) JxlpFinished a b o = absurd (let z : _≡_ {A = ℕ} 0 1 = cc in omega arith)
+cut-state (S.WaitingJxlpIndex l) JxlpFinished a b o = never (sym o)
 cut-state (S.WaitingInnerType l) j a b o = cut-inner j (or-false (overIndex j) o .0) l (or-false (overIndex j) o .1) a b
 cut-state (S.InAuxBox t l) j a b o = cut-side j o t l a b
 cut-state (S.InCodestream k l pending) j a b o = cut-code j o k l pending a b

@@ -10,10 +10,12 @@ use borrow.Author.Tests.{eq-eqb, ne-eqb, eqb-true, eqb-false, lt-ltb, le-ltb, le
 use Rattle.jxl_container.specs.Bytes.{if, and}
 use Rattle.jxl_container.specs.declared.parse.Event.{Event}
 use Rattle.jxl_container.specs.declared.parse.Event.the-variants as E
-use Rattle.jxl_files.specs.Joined.{codeAt, auxAt, joins, lengthOf, longer, before, joined}
-use Rattle.jxl_files.specs.Joiner.{adding, extends, handed, run}
+use Rattle.jxl_files.specs.Joined.{codeAt, auxAt, joins, lengthOf, endOf, longer, before, joined}
+use Rattle.jxl_files.specs.Joiner.{adding, extends, handed, run, Counted, AllCounted}
+use Rattle.jxl_files.specs.Theorems.{JoinerJoins}
 use Rattle.jxl_files.specs.declared.Held.{Held}
 use Rattle.jxl_files.specs.declared.Held.the-variants.{Nothing, Waiting}
+use Rattle.jxl_files.proofs.Never.{never}
 
 -- the tests of the code
 pub ends-below : (a n b : ℕ) → b < a → false ≡ eqb (a + n) b
@@ -33,8 +35,13 @@ room-for n m h = go (leb m (18446744073709551615 - n)) refl
     go true e = e ∙ sym (lt-ltb (n + m) (2 ^ 64) (omega (arith, leb-true m (18446744073709551615 - n) e)))
     go false e = e ∙ sym (le-ltb (n + m) (2 ^ 64) (omega (arith, leb-false m (18446744073709551615 - n) e)))
 
-never : {A : Type 0} → false ≡ true → A
-never e = absurd (let z : _≡_ {A = ℕ} 0 1 = cc in omega arith)
+pub room-behind : (b a n : ℕ) → b < 2 ^ 64 → a ≤ 18446744073709551615 - b → leb n (18446744073709551615 - b - a) ≡ ltb (b + a + n) (2 ^ 64)
+room-behind b a n h k =
+    let room : 18446744073709551615 - b - a ≡ 18446744073709551615 - (b + a) = omega arith in
+    ap (λ (m : ℕ). leb n m) room ∙ room-for (b + a) n (omega arith)
+
+pub no-room : (b a n : ℕ) → b < 2 ^ 64 → 18446744073709551615 - b < a → false ≡ ltb (b + a + n) (2 ^ 64)
+no-room b a n h k = sym (le-ltb (b + a + n) (2 ^ 64) (omega arith))
 
 and-first : (t u : Bool) → and t u ≡ true → t ≡ true
 and-first true u e = refl
@@ -121,23 +128,6 @@ join-twice (E.AuxData u a n) (E.AuxData t b m) es j =
 join-twice (E.AuxData u a n) (E.AuxEnd t) es j = never j
 join-twice (E.AuxEnd t) e es j = never j
 
--- the place behind an event's payload
-abbrev endOf : Event → ℕ
-endOf (E.Kind k) = 0
-endOf E.NoMoreAux = 0
-endOf (E.Codestream a n) = a + n
-endOf (E.AuxStart t c i) = 0
-endOf (E.AuxData t a n) = a + n
-endOf (E.AuxEnd t) = 0
-
--- an event of a file that 64 bits can count
-abbrev pub Counted : Event → Type 0
-Counted e = endOf e < 2 ^ 64
-
-abbrev pub AllCounted : List Event → Type 0
-AllCounted [] = Unit {0}
-AllCounted (e ∷ es) = Counted e × AllCounted es
-
 -- a part made longer ends where the one it joins ends
 code-moves : (a n : ℕ) (e : Event) → codeAt (a + n) e ≡ true → (a + (n + lengthOf e) ≡ endOf e) × (n + lengthOf e ≤ endOf e)
 code-moves a n (E.Kind k) j = never j
@@ -178,6 +168,6 @@ run-joined h (e ∷ es) c (k, ks) = go (joins h e) refl (run-joined e es k ks) (
         rw (j, lt-ltb (lengthOf h + lengthOf e) (2 ^ 64) (omega (arith, ends .1))) (grown (omega (arith, ends .0)) ∙ sym (join-twice h e (joined es) j))
     go false j apart grown = rw j (ap (λ (l : List Event). h ∷ l) apart ∙ sym (keep-apart h e (joined es) j))
 
-pub joiner-joins : (es : List Event) → AllCounted es → run Nothing es ≡ joined es
+pub joiner-joins : JoinerJoins
 joiner-joins [] c = refl
 joiner-joins (e ∷ es) (c, cs) = run-joined e es c cs

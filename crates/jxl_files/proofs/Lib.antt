@@ -1,3 +1,4 @@
+pub mod Never
 pub mod MoreInput
 pub mod Cut
 pub mod Sound
@@ -7,3 +8,5 @@ pub mod Listed
 pub mod Theorems
 pub mod Payloads
 pub mod Joining
+pub mod KindLaws
+pub mod Unique

@@ -34,11 +34,11 @@ use Rattle.jxl_container.specs.declared.ContainerParser.{ContainerParser}
 use Rattle.jxl_container.specs.declared.parse.Event.{Event}
 use Rattle.jxl_container.specs.declared.parse.Event.the-variants as E
 use Rattle.jxl_files.specs.Grammar.{Stop, want, refused, Listing, ends, then, Codestreams, none, single, upTo, whole, coded, code, closed, aux, row, indexed, inner, jxlcBox, jxlpBox, boxed, headed, boxes, nothing, bare, signed, file}
-use Rattle.jxl_files.specs.Feeding.{Seen, events}
+use Rattle.jxl_files.specs.Feeding.{Seen, events, Takes, more, waits}
+use Rattle.jxl_files.specs.Feeding as Feeding
 use Rattle.jxl_files.specs.Theorems.{listing}
 use Rattle.jxl_files.proofs.Cut.{row-right, or-false}
-use Rattle.jxl_files.proofs.Taking.{Takes, more, waits}
-use Rattle.jxl_files.proofs.Taking as Taking
+use Rattle.jxl_files.proofs.Never.{never}
 
 -- the codestream boxes that a record knows of
 abbrev sofar : JxlpIndexState → Codestreams
@@ -218,15 +218,15 @@ rest-none m a (S.WaitingJxlpIndex l) j r = refl
 rest-none m a (S.WaitingInnerType l) j r = refl
 rest-none m a (S.InAuxBox t l) j r = refl
 rest-none m a (S.InCodestream k l pending) j r = refl
-rest-none m a (S.Refused k n) j r = absurd (let z : _≡_ {A = ℕ} 0 1 = cc in omega arith)
+rest-none m a (S.Refused k n) j r = never (sym r)
 
 lists-refused : (m a : ℕ) (d : DetectState) (j : JxlpIndexState) → refusedIn d ≡ true → (s : List ℕ) → Lists a s (restIn m d j a s) (stepOf (at d j) s)
-lists-refused m a S.WaitingSignature j r s = absurd (let z : _≡_ {A = ℕ} 0 1 = cc in omega arith)
-lists-refused m a S.WaitingBoxHeader j r s = absurd (let z : _≡_ {A = ℕ} 0 1 = cc in omega arith)
-lists-refused m a (S.WaitingJxlpIndex l) j r s = absurd (let z : _≡_ {A = ℕ} 0 1 = cc in omega arith)
-lists-refused m a (S.WaitingInnerType l) j r s = absurd (let z : _≡_ {A = ℕ} 0 1 = cc in omega arith)
-lists-refused m a (S.InAuxBox t l) j r s = absurd (let z : _≡_ {A = ℕ} 0 1 = cc in omega arith)
-lists-refused m a (S.InCodestream k l pending) j r s = absurd (let z : _≡_ {A = ℕ} 0 1 = cc in omega arith)
+lists-refused m a S.WaitingSignature j r s = never r
+lists-refused m a S.WaitingBoxHeader j r s = never r
+lists-refused m a (S.WaitingJxlpIndex l) j r s = never r
+lists-refused m a (S.WaitingInnerType l) j r s = never r
+lists-refused m a (S.InAuxBox t l) j r s = never r
+lists-refused m a (S.InCodestream k l pending) j r s = never r
 lists-refused m a (S.Refused k n) j r s = rw (refused-stays k n j s, add-zero a)
 
 lists-step : (m a : ℕ) (p : ContainerParser) (s : List ℕ) → impossible p ≡ false → length s ≤ m → Lists a s (rest m p a s) (stepOf p s)
@@ -244,4 +244,4 @@ listed m p a s i h (more {q = q} {c = c} {e = e} k t) =
     let step = rw k at (lists-step m a p s i h) in
     step .3 ∙ ap (then (shifted a e)) (listed (step .0) q (a + c) (drop c s) (step .2) (omega (arith, length-drop c s, step .1)) t)
 listed m p a s i h (waits k) = rw k at (lists-step m a p s i h)
-listed m p a s i h (Taking.ends k) = rw k at (lists-step m a p s i h)
+listed m p a s i h (Feeding.ends k) = rw k at (lists-step m a p s i h)

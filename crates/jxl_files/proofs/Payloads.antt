@@ -1,12 +1,13 @@
--- Each payload shown is, byte for byte, the file at its place.
+-- Each payload shown is, byte for byte, the file at its place; and so the joiner lists the file.
 use mathlib.Core.Path.{_≡_, refl, sym, ap, _∙_, subst}
 use mathlib.Core.List.{List, [], _∷_, _++_, append-nil, append-assoc}
-use Prim.Native.Nat.{ℕ, _+_, _-_, _<_, _≤_}
+use Prim.Native.Nat.{ℕ, _+_, _-_, _^_, _<_, _≤_}
 use native.Mathlib.Nat.{add-assoc}
 use native.Mathlib.Omega.{arith}
 use lib.ListN.{length, drop, length-append, length-drop, length-take, take-append-drop}
 use lib.ListN.{take as prefix}
 use lib.Seq.{drop-append-le, drop-append-add, take-append-le, length-take-le}
+use Rattle.jxl_container.specs.Record.{fresh}
 use Rattle.jxl_container.specs.Step.{shows, shifted, stepOf, part, payloadOf}
 use Rattle.jxl_container.specs.Laws.{Inside}
 use Rattle.jxl_container.proofs.Laws.{every-step}
@@ -15,11 +16,13 @@ use Rattle.jxl_container.specs.declared.ContainerParser.{ContainerParser}
 use Rattle.jxl_container.specs.declared.parse.Event.{Event}
 use Rattle.jxl_container.specs.declared.parse.Event.the-variants as E
 use Rattle.jxl_files.specs.Grammar.{Stop, want}
-use Rattle.jxl_files.specs.Feeding.{Shown, Seen, placed, take, fed, feeding, whole}
-use Rattle.jxl_files.specs.Theorems.{Right, All, BytesShown}
+use Rattle.jxl_files.specs.Feeding.{Shown, Seen, events, eventsIn, placed, take, fed, feeding, bytesOf, Takes, more, waits, ends}
+use Rattle.jxl_files.specs.Theorems.{Right, All, BytesShown, JoinerListsTheFile}
+use Rattle.jxl_files.specs.Joiner.{Counted, AllCounted}
 use Rattle.jxl_files.proofs.Sound.{consumes}
-use Rattle.jxl_files.proofs.Taking.{Takes, more, waits, ends, takes}
-use Rattle.jxl_files.proofs.Theorems.{unread}
+use Rattle.jxl_files.proofs.Taking.{takes}
+use Rattle.jxl_files.proofs.Theorems.{unread, every-cut-of-a-file}
+use Rattle.jxl_files.proofs.Joining.{joiner-joins}
 
 all-append : (P : Shown → Type 0) (xs ys : List Shown) → All P xs → All P ys → All P (xs ++ ys)
 all-append P [] ys a b = b
@@ -70,7 +73,7 @@ within {p} {s = s} (more {c = c} k t) = omega (arith, within t, length-drop c s,
 within {p} {s = s} (waits k) = omega (arith, (rw k at (every-step p s)) .0)
 within {p} {s = s} (ends k) = omega (arith, (rw k at (every-step p s)) .0)
 
-fed-right : (xs : List (List ℕ)) (w : Stop) (p : ContainerParser) (at : ℕ) (pre u : List ℕ) → length pre ≡ at → All (Right (pre ++ (u ++ whole xs))) (fed w p at u xs .shown)
+fed-right : (xs : List (List ℕ)) (w : Stop) (p : ContainerParser) (at : ℕ) (pre u : List ℕ) → length pre ≡ at → All (Right (pre ++ (u ++ bytesOf xs))) (fed w p at u xs .shown)
 unfolding fed
 fed-right [] w p at pre u l = tt
 fed-right (x ∷ xs) w p at pre u l =
@@ -79,14 +82,31 @@ fed-right (x ∷ xs) w p at pre u l =
     let c : ℕ = r .consumed - at in
     let up = unread (got .1) .0 in
     let fits : c ≤ length (u ++ x) = omega (arith, within (got .1)) in
-    let far : length (pre ++ prefix c (u ++ x)) ≡ r .consumed = behind pre (u ++ x) (whole xs) c fits ∙ omega (arith, up) in
-    let file : pre ++ ((u ++ x) ++ whole xs) ≡ pre ++ (u ++ (x ++ whole xs)) = ap (λ (l : List ℕ). pre ++ l) (append-assoc u x (whole xs)) in
-    let here = taken-right pre (whole xs) l (got .1) in
+    let far : length (pre ++ prefix c (u ++ x)) ≡ r .consumed = behind pre (u ++ x) (bytesOf xs) c fits ∙ omega (arith, up) in
+    let file : pre ++ ((u ++ x) ++ bytesOf xs) ≡ pre ++ (u ++ (x ++ bytesOf xs)) = ap (λ (l : List ℕ). pre ++ l) (append-assoc u x (bytesOf xs)) in
+    let here = taken-right pre (bytesOf xs) l (got .1) in
     let there =
-    subst (λ (f : List ℕ). All (Right f) (fed (r .stop) (r .next) (r .consumed) (drop c (u ++ x)) xs .shown)) (around pre (u ++ x) (whole xs) c)
+    subst (λ (f : List ℕ). All (Right f) (fed (r .stop) (r .next) (r .consumed) (drop c (u ++ x)) xs .shown)) (around pre (u ++ x) (bytesOf xs) c)
     (fed-right xs (r .stop) (r .next) (r .consumed) (pre ++ prefix c (u ++ x)) (drop c (u ++ x)) far) in
     subst (λ (f : List ℕ). All (Right f) (fed w p at u (x ∷ xs) .shown)) file
-    (all-append (Right (pre ++ ((u ++ x) ++ whole xs))) (r .shown) (fed (r .stop) (r .next) (r .consumed) (drop c (u ++ x)) xs .shown) here there)
+    (all-append (Right (pre ++ ((u ++ x) ++ bytesOf xs))) (r .shown) (fed (r .stop) (r .next) (r .consumed) (drop c (u ++ x)) xs .shown) here there)
 
 pub bytes-shown : BytesShown
 bytes-shown p xs = fed-right xs want p 0 [] [] refl
+
+-- an event inside a file that 64 bits can count
+inside-counted : (n : ℕ) (e : Event) → n < 2 ^ 64 → Inside e n → Counted e
+inside-counted n (E.Kind k) h i = omega arith
+inside-counted n E.NoMoreAux h i = omega arith
+inside-counted n (E.Codestream a l) h i = omega arith
+inside-counted n (E.AuxStart t b e) h i = omega arith
+inside-counted n (E.AuxData t a l) h i = omega arith
+inside-counted n (E.AuxEnd t) h i = omega arith
+
+all-counted : (file : List ℕ) → length file < 2 ^ 64 → (xs : List Shown) → All (Right file) xs → AllCounted (eventsIn xs)
+all-counted file h [] a = tt
+all-counted file h (x ∷ xs) (r, a) = (inside-counted (length file) (x .event) h (r .inside), all-counted file h xs a)
+
+pub joiner-lists-the-file : JoinerListsTheFile
+joiner-lists-the-file xs h =
+    joiner-joins (events (feeding fresh 0 xs)) (all-counted (bytesOf xs) h (feeding fresh 0 xs .shown) (bytes-shown fresh xs)) ∙ every-cut-of-a-file xs .0

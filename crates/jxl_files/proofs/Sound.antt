@@ -34,6 +34,7 @@ use Rattle.jxl_container.specs.declared.ContainerParser.{ContainerParser}
 use Rattle.jxl_container.specs.declared.parse.Event.{Event}
 use Rattle.jxl_container.specs.declared.parse.Event.the-variants as E
 use Rattle.jxl_files.specs.Joined.{before}
+use Rattle.jxl_files.proofs.Never.{never}
 
 -- what a state can still give up, in thirds of an event
 abbrev pub codeWeight : Bool → ℕ
@@ -228,15 +229,15 @@ pub none-of-none : (p : ContainerParser) {e : Event} {q : ContainerParser} {c : 
 none-of-none p h = go (isRefused p) refl
   where
     go : (t : Bool) → isRefused p ≡ t → ⊥
-    go true r = let z : _≡_ {A = ℕ} 0 1 = cc (stays p r .1 []) in omega arith
-    go false r = let z : _≡_ {A = ℕ} 0 1 = cc (step-empty p r) in omega arith
+    go true r = never (cc (stays p r .1 []))
+    go false r = never (cc (step-empty p r))
 
 -- a parser that shows something of some input is not refused
 pub shows-open : (p : ContainerParser) (s : List ℕ) {e : Event} {q : ContainerParser} {c : ℕ} → stepOf p s ≡ shows e q c → isRefused p ≡ false
 shows-open p s h = go (isRefused p) refl
   where
     go : (t : Bool) → isRefused p ≡ t → isRefused p ≡ false
-    go true r = absurd (let z : _≡_ {A = ℕ} 0 1 = cc (stays p r .1 s) in omega arith)
+    go true r = never (cc (stays p r .1 s))
     go false r = r
 
 -- what an event costs

@@ -20,11 +20,11 @@ use Rattle.jxl_container.specs.declared.parse.Event.{Event}
 use Rattle.jxl_container.specs.declared.parse.Event.the-variants as E
 use Rattle.jxl_files.specs.Grammar.{Stop, want, refused}
 use Rattle.jxl_files.specs.Joined.{before, joined}
-use Rattle.jxl_files.specs.Feeding.{Shown, Seen, events, eventsIn, stops, followed, placed}
+use Rattle.jxl_files.specs.Feeding.{Shown, Seen, events, eventsIn, stops, followed, placed, Takes, more, waits, ends}
 use Rattle.jxl_files.proofs.Cut.{Grown, code, aux, Cut, keeps, grows, remains, cut-step}
 use Rattle.jxl_files.proofs.Cut as Cut
 use Rattle.jxl_files.proofs.Sound.{apart, consumes, shows-open}
-use Rattle.jxl_files.proofs.Taking.{Takes, more, waits, ends}
+use Rattle.jxl_files.proofs.Never.{never}
 
 -- events joined before the ones that follow
 abbrev pub onto : List Event → List Event → List Event
@@ -42,17 +42,17 @@ pub record Joins (es : List Event) (r t : Seen) : Type 0 where
 -- what was told of an input decides how taking from it goes on
 module _ {p : ContainerParser} {at : ℕ} {s : List ℕ} where
   wanted : {r : Seen} {u : List ℕ} {q : ContainerParser} {c : ℕ} → stepOf p s ≡ wants q c → Takes p at s r u → (r ≡ stops want q (at + c)) × (u ≡ drop c s)
-  wanted h (more e t) = absurd (let z : _≡_ {A = ℕ} 0 1 = cc in omega arith)
+  wanted h (more e t) = never cc
   wanted {q = q} {c = c} h (waits {q = q′} {c = c′} e) =
       let same : q′ ≡ q = cc in
       let far : c′ ≡ c = cc in
       ((λ i. stops want (same i) (at + far i)), ap (λ (n : ℕ). drop n s) far)
-  wanted h (ends e) = absurd (let z : _≡_ {A = ℕ} 0 1 = cc in omega arith)
+  wanted h (ends e) = never cc
 
   ended : {r : Seen} {u : List ℕ} {q : ContainerParser} {c n : ℕ} → stepOf p s ≡ refuses n q c → Takes p at s r u
       → (r ≡ stops (refused n) q (at + c)) × (u ≡ drop c s)
-  ended h (more e t) = absurd (let z : _≡_ {A = ℕ} 0 1 = cc in omega arith)
-  ended h (waits e) = absurd (let z : _≡_ {A = ℕ} 0 1 = cc in omega arith)
+  ended h (more e t) = never cc
+  ended h (waits e) = never cc
   ended {q = q} {c = c} {n = n} h (ends {q = q′} {c = c′} {n = n′} e) =
       let same : q′ ≡ q = cc in
       let far : c′ ≡ c = cc in
@@ -69,8 +69,8 @@ module _ {p : ContainerParser} {at : ℕ} {s : List ℕ} where
         subst (λ (x : ContainerParser). Takes x (at + c) (drop c s) t u) same (subst (λ (n : ℕ). Takes q′ (at + n) (drop n s) t u) far rest),
         ap (λ (x : Event). followed (placed at s x ∷ []) t) event,
       )
-  shown h (waits e) = absurd (let z : _≡_ {A = ℕ} 0 1 = cc in omega arith)
-  shown h (ends e) = absurd (let z : _≡_ {A = ℕ} 0 1 = cc in omega arith)
+  shown h (waits e) = never cc
+  shown h (ends e) = never cc
 
 -- a part that goes on and the part that follows it are one
 grown-joined : (a : ℕ) (es : List Event) {e f g : Event} {c : ℕ} → Grown e c f g → before (shifted a e) (shifted (a + c) f ∷ es) ≡ shifted a g ∷ es

@@ -15,15 +15,8 @@ use Rattle.jxl_container.proofs.Step.{none}
 use Rattle.jxl_container.specs.declared.ContainerParser.{ContainerParser}
 use Rattle.jxl_container.specs.declared.parse.Event.{Event}
 use Rattle.jxl_files.specs.Grammar.{Stop, want, refused}
-use Rattle.jxl_files.specs.Feeding.{Shown, Seen, events, eventsIn, stops, followed, placed, onward, taking, take}
+use Rattle.jxl_files.specs.Feeding.{Shown, Seen, events, eventsIn, stops, followed, placed, onward, taking, take, Takes, more, waits, ends}
 use Rattle.jxl_files.proofs.Sound.{none-of-none, consumes, costs, weight, weight-most}
-
--- from record p and input s, which stands at `at`: what is seen, and the bytes left unread
-pub data Takes : ContainerParser → ℕ → List ℕ → Seen → List ℕ → Type 0 where
-  more : {p q : ContainerParser} {at c : ℕ} {s u : List ℕ} {e : Event} {r : Seen} → stepOf p s ≡ shows e q c → Takes q (at + c) (drop c s) r u
-      → Takes p at s (followed (placed at s e ∷ []) r) u
-  waits : {p q : ContainerParser} {at c : ℕ} {s : List ℕ} → stepOf p s ≡ wants q c → Takes p at s (stops want q (at + c)) (drop c s)
-  ends : {p q : ContainerParser} {at c n : ℕ} {s : List ℕ} → stepOf p s ≡ refuses n q c → Takes p at s (stops (refused n) q (at + c)) (drop c s)
 
 -- an event for each 3 of the bytes and the weight
 pub priced : {p : ContainerParser} {at : ℕ} {s u : List ℕ} {r : Seen} → Takes p at s r u → 3 * length (r .shown) ≤ length s + weight p

@@ -15,14 +15,15 @@ use Rattle.jxl_container.specs.declared.ContainerParser.{ContainerParser}
 use Rattle.jxl_container.specs.declared.parse.Event.{Event}
 use Rattle.jxl_files.specs.Grammar.{Stop, want, refused, Listing, file}
 use Rattle.jxl_files.specs.Joined.{before, joined}
-use Rattle.jxl_files.specs.Feeding.{Shown, Seen, events, eventsIn, stops, followed, placed, taking, take, fed, feeding, whole}
-use Rattle.jxl_files.specs.Theorems.{listing, Agrees, EveryFile, NothingToJoin, EveryCut, EveryCutOfAFile, MostUnread, MostUnreadOfPackets, MostEvents, AtMostMore, AlwaysEnds}
+use Rattle.jxl_files.specs.Feeding.{Shown, Seen, events, eventsIn, stops, followed, placed, taking, take, fed, feeding, bytesOf, Takes, more, waits, ends}
+use Rattle.jxl_files.specs.Theorems.{listing, Agrees, EveryFile, NothingToJoin, EveryCut, EveryCutOfAFile, MostUnread, MostUnreadOfPackets, MostEvents, AtMostMore, AlwaysEnds, EndsByItself, OneWay}
 use Rattle.jxl_files.proofs.Cut.{Cut, cut-step}
 use Rattle.jxl_files.proofs.Cut as Cut
 use Rattle.jxl_files.proofs.Sound.{weight, weight-most, consumes}
-use Rattle.jxl_files.proofs.Taking.{Takes, more, waits, ends, takes, take-is, only, priced}
+use Rattle.jxl_files.proofs.Taking.{takes, take-is, only, priced}
 use Rattle.jxl_files.proofs.Stretches.{onto, Joins, stretch, first-apart}
 use Rattle.jxl_files.proofs.Listed.{listed}
+use Rattle.jxl_files.proofs.Never.{never}
 
 -- where a step waits, the same bytes make it wait there again
 settled : (p : ContainerParser) (s : List ℕ) {q : ContainerParser} {c : ℕ} → stepOf p s ≡ wants q c → stepOf q (drop c s) ≡ wants q 0
@@ -94,7 +95,7 @@ first p at s = let got = takes p at s in subst (Takes p at s (take p at s)) (unr
 
 -- packets behind the bytes left unread, against all of it at once
 cuts : (xs : List (List ℕ)) (w : Stop) (p : ContainerParser) (at : ℕ) (u : List ℕ) → Idle w p at u
-    → (t : Seen) × (v : List ℕ) × Takes p at (u ++ whole xs) t v × Agrees (fed w p at u xs) t
+    → (t : Seen) × (v : List ℕ) × Takes p at (u ++ bytesOf xs) t v × Agrees (fed w p at u xs) t
 unfolding fed
 cuts [] w p at u i = (
   stops w p at,
@@ -105,8 +106,8 @@ cuts [] w p at u i = (
 cuts (x ∷ xs) w p at u i =
     let r : Seen = take p at (u ++ x) in
     let then = cuts xs (r .stop) (r .next) (r .consumed) (drop (r .consumed - at) (u ++ x)) (idle (first p at (u ++ x))) in
-    let both = stretch p at (u ++ x) (whole xs) (first p at (u ++ x)) (then .2) in
-    (both .0, then .1, subst (λ (l : List ℕ). Takes p at l (both .0) (then .1)) (append-assoc u x (whole xs)) (both .1), one-more (r .shown) (then .3) (both .2))
+    let both = stretch p at (u ++ x) (bytesOf xs) (first p at (u ++ x)) (then .2) in
+    (both .0, then .1, subst (λ (l : List ℕ). Takes p at l (both .0) (then .1)) (append-assoc u x (bytesOf xs)) (both .1), one-more (r .shown) (then .3) (both .2))
 
 -- a file fed whole
 pub whole-feed : (p : ContainerParser) (at : ℕ) (s : List ℕ) → feeding p at (s ∷ []) ≡ take p at s
@@ -119,7 +120,7 @@ nothing-to-join p at s = separate (takes p at s .1)
 pub every-cut : EveryCut
 every-cut p at xs r =
     let all = cuts xs want p at [] (idle-wants p at [] (step-empty p r)) in
-    subst (Agrees (feeding p at xs)) (sym (whole-feed p at (whole xs) ∙ take-is (all .2))) (all .3)
+    subst (Agrees (feeding p at xs)) (sym (whole-feed p at (bytesOf xs) ∙ take-is (all .2))) (all .3)
 
 pub every-file : EveryFile
 unfolding file
@@ -128,14 +129,14 @@ every-file s = ap listing (whole-feed fresh 0 s) ∙ sym (listed (length s) fres
 pub every-cut-of-a-file : EveryCutOfAFile
 every-cut-of-a-file xs =
     let cut = every-cut fresh 0 xs refl in
-    let all = every-file (whole xs) in
+    let all = every-file (bytesOf xs) in
     (cut .events-are ∙ ap (λ (l : Listing). l .events) all, cut .consumed-is ∙ ap (λ (l : Listing). l .consumed) all, cut .stop-is ∙ ap (λ (l : Listing). l .stop) all)
 
 -- a feed that wants more has seen all but 15 bytes
 short : {p : ContainerParser} {at : ℕ} {s u : List ℕ} {r : Seen} → Takes p at s r u → r .stop ≡ want → at + length s ≤ r .consumed + 15
 short {p} {at} {s} (more {c = c} k t) e = omega (arith, short t e, length-drop c s, consumes p s k)
 short {p} {at} {s} (waits k) e = omega (arith, (rw k at (every-step p s)) .1)
-short (ends k) e = absurd (let z : _≡_ {A = ℕ} 0 1 = cc in omega arith)
+short (ends k) e = never cc
 
 pub most-unread : MostUnread
 most-unread p at s e = short (takes p at s .1) e
@@ -143,14 +144,20 @@ most-unread p at s e = short (takes p at s .1) e
 pub most-unread-of-packets : MostUnreadOfPackets
 most-unread-of-packets p at xs r e =
     let cut = every-cut p at xs r in
-    let same = whole-feed p at (whole xs) in
-    let there : take p at (whole xs) .stop ≡ want = ap (λ (x : Seen). x .stop) (sym same) ∙ sym (cut .stop-is) ∙ e in
-    omega (arith, most-unread p at (whole xs) there, cut .consumed-is, ap (λ (x : Seen). x .consumed) same)
+    let same = whole-feed p at (bytesOf xs) in
+    let there : take p at (bytesOf xs) .stop ≡ want = ap (λ (x : Seen). x .stop) (sym same) ∙ sym (cut .stop-is) ∙ e in
+    omega (arith, most-unread p at (bytesOf xs) there, cut .consumed-is, ap (λ (x : Seen). x .consumed) same)
 
 pub always-ends : AlwaysEnds
 always-ends p at s turns h =
     let t = takes p at s .1 in
     only t turns (omega (arith, priced t, weight-most p))
+
+pub ends-by-itself : EndsByItself
+ends-by-itself p at s = takes p at s
+
+pub one-way : OneWay
+one-way p at s r u t = take-is t
 
 counted : (xs : List Shown) → length (eventsIn xs) ≡ length xs
 counted [] = refl
@@ -158,7 +165,7 @@ counted (x ∷ xs) = ap suc (counted xs)
 
 -- each packet behind the first costs at most one event more
 cut-most : (x : List ℕ) (xs : List (List ℕ)) (w : Stop) (p : ContainerParser) (at : ℕ) (u : List ℕ)
-    → length (fed w p at u (x ∷ xs) .shown) ≤ length (take p at (u ++ whole (x ∷ xs)) .shown) + length xs
+    → length (fed w p at u (x ∷ xs) .shown) ≤ length (take p at (u ++ bytesOf (x ∷ xs)) .shown) + length xs
 unfolding fed
 cut-most x [] w p at u =
     omega (arith, length-append (take p at (u ++ x) .shown) [], ap (λ (l : List ℕ). length (take p at (u ++ l) .shown)) (append-nil x))
@@ -166,9 +173,9 @@ cut-most x (y ∷ ys) w p at u =
     let r : Seen = take p at (u ++ x) in
     let l : List ℕ = drop (r .consumed - at) (u ++ x) in
     let then = cut-most y ys (r .stop) (r .next) (r .consumed) l in
-    let after = takes (r .next) (r .consumed) (l ++ whole (y ∷ ys)) in
-    let both = stretch p at (u ++ x) (whole (y ∷ ys)) (first p at (u ++ x)) (after .1) in
-    let all = take-is (subst (λ (l : List ℕ). Takes p at l (both .0) (after .0)) (append-assoc u x (whole (y ∷ ys))) (both .1)) in
+    let after = takes (r .next) (r .consumed) (l ++ bytesOf (y ∷ ys)) in
+    let both = stretch p at (u ++ x) (bytesOf (y ∷ ys)) (first p at (u ++ x)) (after .1) in
+    let all = take-is (subst (λ (l : List ℕ). Takes p at l (both .0) (after .0)) (append-assoc u x (bytesOf (y ∷ ys))) (both .1)) in
     omega (
       arith,
       then,
@@ -184,11 +191,11 @@ at-most-more p at x xs =
       arith,
       cut-most x xs want p at [],
       counted (feeding p at (x ∷ xs) .shown),
-      counted (take p at (whole (x ∷ xs)) .shown),
-      ap (λ (r : Seen). length (events r)) (whole-feed p at (whole (x ∷ xs))),
+      counted (take p at (bytesOf (x ∷ xs)) .shown),
+      ap (λ (r : Seen). length (events r)) (whole-feed p at (bytesOf (x ∷ xs))),
     )
 
 pub most-events : MostEvents
 most-events p at x xs =
     omega
-    (arith, cut-most x xs want p at [], counted (feeding p at (x ∷ xs) .shown), priced (takes p at (whole (x ∷ xs)) .1), weight-most p)
+    (arith, cut-most x xs want p at [], counted (feeding p at (x ∷ xs) .shown), priced (takes p at (bytesOf (x ∷ xs)) .1), weight-most p)

@@ -1,5 +1,8 @@
--- What a whole file lists: document 01, "Boxes", as a grammar of bytes. It knows nothing of steps, records or packets.
+-- What a whole file lists: document 01, "Boxes", as a grammar of bytes. It knows nothing of steps, packets or a parser's state;
+-- with a step it shares the header, the signature, and the reach of a payload and the numbers of the refusals (Record's `under`,
+-- `less`, `toEnd`, `number`).
 -- Each definition is one thing in a file that stands at `at`, with the bytes `s` from there to the end; `more` lists what follows it.
+-- A choice is an `elim`, which computes one branch alone; an `if` would compute both, and with them the boxes to the end twice.
 use mathlib.Core.Bool.{Bool, true, false}
 use mathlib.Core.List.{List, [], _∷_}
 use Prim.Native.Nat.{ℕ, zero, suc, _+_, _%_}
@@ -47,7 +50,7 @@ pub data Codestreams : Type 0 where
   upTo : ℕ → Codestreams
   whole : Codestreams
 
--- a codestream payload of which a byte is there, or the byte behind it
+-- CODESTREAM: all input that belongs to the box, of which a byte is there, or the byte behind it; a payload of 0 gives one empty CODESTREAM
 abbrev pub coded : Left → ℕ → List ℕ → More → Listing
 coded ToEnd at s more = then (E.Codestream at (length s)) (ends want (at + length s))
 coded (Bytes n) at s more =
@@ -56,7 +59,7 @@ coded (Bytes n) at s more =
       | false ↦ then (E.Codestream at (length s)) (ends want (at + length s))
     ]
 
--- a codestream payload; where NO_MORE_AUX is to be told, it comes first
+-- a codestream payload; codestream to the end: NO_MORE_AUX first, and `tell` is true just for that
 abbrev pub code : Bool → Left → ℕ → List ℕ → More → Listing
 code tell l at [] more = ends want at
 code true l at (x ∷ s) more = then E.NoMoreAux (coded l at (x ∷ s) more)
@@ -91,11 +94,11 @@ row false i = upTo i
 
 -- a `jxlp` payload whose index must be i: 4 bytes, bit 31 marks last, the other 31 are the index; another index is refused behind them
 abbrev pub indexed : ℕ → Left → ℕ → List ℕ → Boxes → Listing
-indexed i l at s boxes =
+indexed i l at s next =
     elim (ltb (length s) 4) [
       | true ↦ ends want at
       | false ↦ elim (eqb (be32 s 0 % 0x80000000) i) [
-        | true ↦ code (toEnd l) (less l 4) (at + 4) (drop 4 s) (boxes (row (leb 0x80000000 (be32 s 0)) i))
+        | true ↦ code (toEnd l) (less l 4) (at + 4) (drop 4 s) (next (row (leb 0x80000000 (be32 s 0)) i))
         | false ↦ ends (refused 1) (at + 4)
       ]
     ]
@@ -113,37 +116,37 @@ inner l at s more =
 
 -- a `jxlc` box: the only codestream box of its file
 abbrev pub jxlcBox : Codestreams → Left → ℕ → List ℕ → Boxes → Listing
-jxlcBox none l at s boxes = code (toEnd l) l at s (boxes single)
-jxlcBox single l at s boxes = ends (refused 1) at
-jxlcBox (upTo i) l at s boxes = ends (refused 1) at
-jxlcBox whole l at s boxes = ends (refused 1) at
+jxlcBox none l at s next = code (toEnd l) l at s (next single)
+jxlcBox single l at s next = ends (refused 1) at
+jxlcBox (upTo i) l at s next = ends (refused 1) at
+jxlcBox whole l at s next = ends (refused 1) at
 
 -- a `jxlp` box: not after a `jxlc` or a last `jxlp`; the index counts up from 0
 abbrev pub jxlpBox : Codestreams → Left → ℕ → List ℕ → Boxes → Listing
-jxlpBox none l at s boxes = indexed 0 l at s boxes
-jxlpBox single l at s boxes = ends (refused 1) at
-jxlpBox (upTo i) l at s boxes = indexed (i + 1) l at s boxes
-jxlpBox whole l at s boxes = ends (refused 1) at
+jxlpBox none l at s next = indexed 0 l at s next
+jxlpBox single l at s next = ends (refused 1) at
+jxlpBox (upTo i) l at s next = indexed (i + 1) l at s next
+jxlpBox whole l at s next = ends (refused 1) at
 
 -- a box of type t, behind its header; a `jxlp` or a `brob` of a payload under 4 is refused
 abbrev pub boxed : Codestreams → ℕ → Left → ℕ → List ℕ → Boxes → Listing
-boxed c t l at s boxes =
+boxed c t l at s next =
     elim (eqb t jxlc) [
-      | true ↦ jxlcBox c l at s boxes
+      | true ↦ jxlcBox c l at s next
       | false ↦ elim (eqb t jxlp) [
-        | true ↦ elim (under 4 l) [ true ↦ ends (refused 1) at | false ↦ jxlpBox c l at s boxes ]
+        | true ↦ elim (under 4 l) [ true ↦ ends (refused 1) at | false ↦ jxlpBox c l at s next ]
         | false ↦ elim (eqb t brob) [
-          | true ↦ elim (under 4 l) [ true ↦ ends (refused 1) at | false ↦ inner l at s (boxes c) ]
-          | false ↦ then (E.AuxStart t false (toEnd l)) (aux t l at s (boxes c))
+          | true ↦ elim (under 4 l) [ true ↦ ends (refused 1) at | false ↦ inner l at s (next c) ]
+          | false ↦ then (E.AuxStart t false (toEnd l)) (aux t l at s (next c))
         ]
       ]
     ]
 
 -- a refusal in the header consumes nothing of it
 abbrev pub headed : Header → Codestreams → ℕ → List ℕ → Boxes → Listing
-headed short c at s boxes = ends want at
-headed (bad r) c at s boxes = ends (refused (number r)) at
-headed (box t l n) c at s boxes = boxed c t l (at + n) (drop n s) boxes
+headed short c at s next = ends want at
+headed (bad r) c at s next = ends (refused (number r)) at
+headed (box t l n) c at s next = boxed c t l (at + n) (drop n s) next
 
 -- boxes up to the end; each takes at least 8 bytes, so as many turns as bytes are more than enough
 unfoldable pub boxes : ℕ → Boxes
@@ -158,7 +161,7 @@ nothing at s = ends want at
 abbrev pub bare : BitstreamKind → ℕ → List ℕ → Listing
 bare k at s = then (E.Kind k) (code true ToEnd at s nothing)
 
--- the signature, and what it announces
+-- the signature, and what it announces; the turns, the row and the place are `file`'s, named so that a law can enter the grammar anywhere
 abbrev pub signed : Signature → ℕ → Codestreams → ℕ → List ℕ → Listing
 signed G.Bare turns c at s = bare K.BareCodestream at s
 signed G.Container turns c at s = then (E.Kind K.Container) (boxes turns c (at + 12) (drop 12 s))

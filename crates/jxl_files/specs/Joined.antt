@@ -42,6 +42,15 @@ lengthOf (E.AuxStart t c e) = 0
 lengthOf (E.AuxData t a n) = n
 lengthOf (E.AuxEnd t) = 0
 
+-- the place behind an event's payload
+abbrev pub endOf : Event → ℕ
+endOf (E.Kind k) = 0
+endOf E.NoMoreAux = 0
+endOf (E.Codestream a n) = a + n
+endOf (E.AuxStart t c e) = 0
+endOf (E.AuxData t a n) = a + n
+endOf (E.AuxEnd t) = 0
+
 -- a part with m bytes more
 abbrev pub longer : ℕ → Event → Event
 longer m (E.Kind k) = E.Kind k

@@ -1,11 +1,11 @@
 -- A joiner holds the newest event back, until the next one shows that it is whole; and how many events a queue must hold.
 use mathlib.Core.Bool.{Bool, true, false}
 use mathlib.Core.List.{List, [], _∷_, _++_}
-use Prim.Native.Nat.{ℕ, _+_, _-_, _/_, _^_, min}
+use Prim.Native.Nat.{ℕ, _+_, _-_, _/_, _^_, _<_, min}
 use lib.Dec.{ltb}
 use Rattle.jxl_container.specs.Bytes.{if, and}
 use Rattle.jxl_container.specs.declared.parse.Event.{Event}
-use Rattle.jxl_files.specs.Joined.{joins, lengthOf, longer}
+use Rattle.jxl_files.specs.Joined.{joins, lengthOf, endOf, longer}
 use Rattle.jxl_files.specs.declared.Held.{Held}
 use Rattle.jxl_files.specs.declared.Held.the-variants.{Nothing, Waiting}
 use Rattle.jxl_files.specs.declared.Joiner.{Joiner}
@@ -31,6 +31,14 @@ handed (Waiting e) = e ∷ []
 abbrev pub run : Held → List Event → List Event
 run h [] = handed h
 run h (e ∷ es) = handed (adding h e .out) ++ run (adding h e .next .held) es
+
+-- an event of a file that 64 bits can count
+abbrev pub Counted : Event → Type 0
+Counted e = endOf e < 2 ^ 64
+
+abbrev pub AllCounted : List Event → Type 0
+AllCounted [] = Unit {0}
+AllCounted (e ∷ es) = Counted e × AllCounted es
 
 -- n bytes in k packets give at most n / 3 + 2 + k events (`most events`); the number saturates at 64 bits
 abbrev pub mostEvents : ℕ → ℕ → ℕ

@@ -3,3 +3,4 @@ pub mod Joined
 pub mod Feeding
 pub mod Theorems
 pub mod Joiner
+pub mod Placing

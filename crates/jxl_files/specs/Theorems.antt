@@ -2,15 +2,21 @@
 use mathlib.Core.Path.{_≡_}
 use mathlib.Core.Bool.{Bool, true, false}
 use mathlib.Core.List.{List, [], _∷_}
-use Prim.Native.Nat.{ℕ, _+_, _/_, _≤_}
+use Prim.Native.Nat.{ℕ, _+_, _/_, _<_, _≤_, _^_}
 use lib.ListN.{length}
-use Rattle.jxl_container.specs.Record.{fresh, isRefused}
-use Rattle.jxl_container.specs.Step.{payloadOf}
+use Rattle.jxl_container.specs.Record.{fresh, isRefused, kindOf}
+use Rattle.jxl_container.specs.Step.{refuses, stepOf, payloadOf}
 use Rattle.jxl_container.specs.Laws.{Inside}
+use Rattle.jxl_container.specs.declared.BitstreamKind.{BitstreamKind}
+use Rattle.jxl_container.specs.declared.BitstreamKind.the-variants as K
 use Rattle.jxl_container.specs.declared.ContainerParser.{ContainerParser}
+use Rattle.jxl_container.specs.declared.parse.Event.{Event}
+use Rattle.jxl_container.specs.declared.parse.Event.the-variants as E
 use Rattle.jxl_files.specs.Grammar.{Stop, want, Listing, file}
 use Rattle.jxl_files.specs.Joined.{joined}
-use Rattle.jxl_files.specs.Feeding.{Shown, Seen, events, taking, take, feeding, whole}
+use Rattle.jxl_files.specs.Joiner.{run, AllCounted}
+use Rattle.jxl_files.specs.Feeding.{Shown, Seen, events, taking, take, feeding, bytesOf, Takes}
+use Rattle.jxl_files.specs.declared.Held.the-variants.{Nothing}
 
 -- what was seen, as a listing
 abbrev pub listing : Seen → Listing
@@ -33,13 +39,13 @@ pub record Agrees (f t : Seen) : Type 0 where
 
 -- every cut: any packets, from any record that is not refused, come to what all their bytes come to, fed at once
 abbrev pub EveryCut : Type 0
-EveryCut = (p : ContainerParser) (at : ℕ) (xs : List (List ℕ)) → isRefused p ≡ false → Agrees (feeding p at xs) (feeding p at (whole xs ∷ []))
+EveryCut = (p : ContainerParser) (at : ℕ) (xs : List (List ℕ)) → isRefused p ≡ false → Agrees (feeding p at xs) (feeding p at (bytesOf xs ∷ []))
 
 -- and so, of a file cut in any packets, to what the grammar lists
 abbrev pub EveryCutOfAFile : Type 0
 EveryCutOfAFile =
-    (xs : List (List ℕ)) → (joined (events (feeding fresh 0 xs)) ≡ file (whole xs) .events)
-    × (feeding fresh 0 xs .consumed ≡ file (whole xs) .consumed) × (feeding fresh 0 xs .stop ≡ file (whole xs) .stop)
+    (xs : List (List ℕ)) → (joined (events (feeding fresh 0 xs)) ≡ file (bytesOf xs) .events)
+    × (feeding fresh 0 xs .consumed ≡ file (bytesOf xs) .consumed) × (feeding fresh 0 xs .stop ≡ file (bytesOf xs) .stop)
 
 -- the bytes shown are the file's at the event's place, and all of them are there
 pub record Right (file : List ℕ) (x : Shown) : Type 0 where
@@ -52,7 +58,7 @@ All P (x ∷ xs) = P x × All P xs
 
 -- bytes shown: each payload shown is, byte for byte, the file at its place
 abbrev pub BytesShown : Type 0
-BytesShown = (p : ContainerParser) (xs : List (List ℕ)) → All (Right (whole xs)) (feeding p 0 xs .shown)
+BytesShown = (p : ContainerParser) (xs : List (List ℕ)) → All (Right (bytesOf xs)) (feeding p 0 xs .shown)
 
 -- most unread: unless refused, at most 15 bytes are left unread; of one feed from any record, of packets from any that is not refused
 abbrev pub MostUnread : Type 0
@@ -61,20 +67,57 @@ MostUnread = (p : ContainerParser) (at : ℕ) (s : List ℕ) → take p at s .st
 abbrev pub MostUnreadOfPackets : Type 0
 MostUnreadOfPackets =
     (p : ContainerParser) (at : ℕ) (xs : List (List ℕ)) → isRefused p ≡ false → feeding p at xs .stop ≡ want
-    → at + length (whole xs) ≤ feeding p at xs .consumed + 15
+    → at + length (bytesOf xs) ≤ feeding p at xs .consumed + 15
 
 -- most events: n bytes in k packets, one at least, give at most n / 3 + 2 + k events, from any record
 abbrev pub MostEvents : Type 0
 MostEvents =
     (p : ContainerParser) (at : ℕ) (x : List ℕ) (xs : List (List ℕ))
-    → length (events (feeding p at (x ∷ xs))) ≤ length (whole (x ∷ xs)) / 3 + 2 + length (x ∷ xs)
+    → length (events (feeding p at (x ∷ xs))) ≤ length (bytesOf (x ∷ xs)) / 3 + 2 + length (x ∷ xs)
 
 -- and at most k - 1 more than all their bytes fed at once
 abbrev pub AtMostMore : Type 0
 AtMostMore =
     (p : ContainerParser) (at : ℕ) (x : List ℕ) (xs : List (List ℕ))
-    → length (events (feeding p at (x ∷ xs))) ≤ length (events (feeding p at (whole (x ∷ xs) ∷ []))) + length xs
+    → length (events (feeding p at (x ∷ xs))) ≤ length (events (feeding p at (bytesOf (x ∷ xs) ∷ []))) + length xs
 
 -- always ends: from any record, on any input; a third as many steps as bytes, and four, are enough
 abbrev pub AlwaysEnds : Type 0
 AlwaysEnds = (p : ContainerParser) (at : ℕ) (s : List ℕ) (turns : ℕ) → length s / 3 + 4 ≤ turns → taking turns p at s ≡ take p at s
+
+-- and it stops because a step wants more or refuses, never because its turns ran out; what it comes to is the only thing
+abbrev pub EndsByItself : Type 0
+EndsByItself = (p : ContainerParser) (at : ℕ) (s : List ℕ) → (u : List ℕ) × Takes p at s (take p at s) u
+
+abbrev pub OneWay : Type 0
+OneWay = (p : ContainerParser) (at : ℕ) (s : List ℕ) (r : Seen) (u : List ℕ) → Takes p at s r u → take p at s ≡ r
+
+-- the kind that the first KIND tells; unknown before it
+abbrev pub kindTold : List Event → BitstreamKind
+kindTold [] = K.Unknown
+kindTold (E.Kind k ∷ es) = k
+kindTold (E.NoMoreAux ∷ es) = kindTold es
+kindTold (E.Codestream a n ∷ es) = kindTold es
+kindTold (E.AuxStart t b e ∷ es) = kindTold es
+kindTold (E.AuxData t a n ∷ es) = kindTold es
+kindTold (E.AuxEnd t ∷ es) = kindTold es
+
+-- kind: of a fresh parser fed any packets, the kind told on request is unknown before KIND, then KIND's
+abbrev pub KindIsTold : Type 0
+KindIsTold = (xs : List (List ℕ)) → kindOf (feeding fresh 0 xs .next) ≡ kindTold (events (feeding fresh 0 xs))
+
+-- and so the one that the grammar lists of the file
+abbrev pub KindOfAFile : Type 0
+KindOfAFile = (xs : List (List ℕ)) → kindOf (feeding fresh 0 xs .next) ≡ kindTold (file (bytesOf xs) .events)
+
+-- a refusal leaves the kind what it was; from any record, one that no file leads to as well
+abbrev pub RefusalKeepsKind : Type 0
+RefusalKeepsKind = (p : ContainerParser) (s : List ℕ) (n : ℕ) (q : ContainerParser) (c : ℕ) → stepOf p s ≡ refuses n q c → kindOf q ≡ kindOf p
+
+-- joiner: of events whose ends 64 bits can count, it hands back the joined ones
+abbrev pub JoinerJoins : Type 0
+JoinerJoins = (es : List Event) → AllCounted es → run Nothing es ≡ joined es
+
+-- and so, of a file under 2^64 bytes cut in any packets, exactly what the grammar lists
+abbrev pub JoinerListsTheFile : Type 0
+JoinerListsTheFile = (xs : List (List ℕ)) → length (bytesOf xs) < 2 ^ 64 → run Nothing (events (feeding fresh 0 xs)) ≡ file (bytesOf xs) .events

@@ -1,11 +1,12 @@
-// What users want of whole files: a joiner of payload parts, and how many events a queue must hold. The grammar of a whole
-// file and what feeding in packets gives stand in specs/, and the theorems on them in proofs/.
+// What users want of whole files: an event's place in the file, a joiner of payload parts, and how many events a queue must
+// hold. The grammar of a whole file and what feeding in packets gives stand in specs/, and the theorems on them in proofs/.
 use jxl_container::parse::Event;
 ghost use mathlib.Core.Path.{_≡_};
 ghost use Prim.Native.Nat.{_+_, _^_, _<_};
-ghost use lib.Dec.{eqb};
+ghost use lib.Dec.{eqb, ltb};
 ghost use Rattle.jxl_files.specs.Joined as Spec;
 ghost use Rattle.jxl_files.specs.Joiner.{adding, extends, mostEvents};
+ghost use Rattle.jxl_files.specs.Placing.{placing};
 
 // An event, or none.
 pub enum Held {
@@ -22,6 +23,12 @@ pub struct Joiner {
 pub struct Added {
     pub out: Held,
     pub next: Joiner,
+}
+
+// An event with its place in the file, or a payload that would end behind 2^64 - 1.
+pub enum Placed {
+    At(Event),
+    TooFar,
 }
 
 // Whether `n` bytes at `a` end where `b` is.
@@ -171,7 +178,7 @@ impl Joiner {
         }
     }
 
-    // Adds an event; hands back the one held, if it is now known to be whole.
+    // Adds an event; hands back the one held, if it is now known to be whole or if the joined length would not fit.
     pub fn add(self, event: Event) -> Added
         ensures { λ r. ⌜ r ≡ adding (self .held) event ⌝ }
     {
@@ -195,7 +202,7 @@ impl Joiner {
     }
 }
 
-// The most events that `n` bytes in `k` packets can give, for sizing a queue; the number saturates at 64 bits.
+// An upper bound on the events that `n` bytes in `k` packets, one at least, give, for sizing a queue; it saturates at 64 bits.
 pub fn most_events(n: u64, k: u64) -> u64
     ensures { λ r. ⌜ r ≡ mostEvents n k ⌝ }
 {
@@ -204,5 +211,47 @@ pub fn most_events(n: u64, k: u64) -> u64
         whole + k
     } else {
         0xffff_ffff_ffff_ffff
+    }
+}
+
+// Whether `n` bytes at `a`, counted from `base`, end at 2^64 - 1 or before.
+fn fits(base: usize, a: usize, n: usize) -> bool
+    ensures { λ r. ⌜ r ≡ ltb (base + a + n) (2 ^ 64) ⌝ }
+{
+    let room = 0xffff_ffff_ffff_ffff - base;
+    if a <= room { n <= room - a } else { false }
+}
+
+// The event of a step, whose input stands at `base` in the file, with its place in the file.
+pub fn with_place(event: Event, base: usize) -> Placed
+    ensures { λ r. ⌜ r ≡ placing base event ⌝ }
+{
+    match event {
+        Event::Codestream { at, len } => {
+            if fits(base, at, len) {
+                Placed::At(Event::Codestream { at: base + at, len })
+            } else {
+                Placed::TooFar
+            }
+        }
+        Event::AuxData { ty, at, len } => {
+            if fits(base, at, len) {
+                Placed::At(Event::AuxData {
+                    ty,
+                    at: base + at,
+                    len,
+                })
+            } else {
+                Placed::TooFar
+            }
+        }
+        Event::Kind(k) => Placed::At(Event::Kind(k)),
+        Event::NoMoreAux => Placed::At(Event::NoMoreAux),
+        Event::AuxStart { ty, brotli, to_end } => Placed::At(Event::AuxStart {
+            ty,
+            brotli,
+            to_end,
+        }),
+        Event::AuxEnd { ty } => Placed::At(Event::AuxEnd { ty }),
     }
 }
