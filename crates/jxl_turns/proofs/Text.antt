@@ -19,7 +19,8 @@ use Rattle.jxl_files.specs.Feeding.{Seen, events, followed, placed, stops}
 use Rattle.jxl_files.specs.Feeding as Feeding
 use Rattle.jxl_files.specs.Grammar.{file}
 use Rattle.jxl_files.specs.Theorems.{listing}
-use Rattle.jxl_files.proofs.Taking.{Takes, more, waits, ends, takes, take-is}
+use Rattle.jxl_files.specs.Feeding.{Takes, more, waits, ends}
+use Rattle.jxl_files.proofs.Taking.{takes, take-is}
 use Rattle.jxl_files.proofs.Theorems.{every-file, whole-feed}
 use Rattle.jxl_listing.specs.Lines.{text}
 use Rattle.jxl_listing.specs.declared.Line.the-variants as L

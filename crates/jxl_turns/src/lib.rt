@@ -2,6 +2,8 @@
 use jxl_container::ContainerParser;
 use jxl_container::parse::Event;
 use jxl_container::parse::Step;
+use jxl_files::Held;
+use jxl_files::Joiner;
 use jxl_listing::Line;
 use jxl_listing::Put;
 use jxl_listing::Stop;
@@ -10,8 +12,10 @@ ghost use Prim.Native.Nat.{_+_, _-_, _^_, _≤_, _<_, min};
 ghost use lib.ListN.{length, drop};
 ghost use Rattle.jxl_container.specs.Step.{shifted};
 ghost use Rattle.jxl_listing.specs.Lines.{text};
-ghost use Rattle.jxl_listing.specs.Putting.{leaves, pasted};
-ghost use Rattle.jxl_turns.specs.Listed.{fileText, listOf, nextOf, placeOf};
+ghost use Rattle.jxl_listing.specs.Putting.{leaves, pasted, putOf};
+ghost use Rattle.jxl_turns.specs.Listed.{fileText, listOf, nextOf, placeOf, texts};
+ghost use Rattle.jxl_turns.specs.Turned.{Told, turnFrom, turnOf};
+ghost use Rattle.jxl_files.specs.Joiner.{handed};
 
 // What comes next: an event with its place in the file, or the stop; and the record and the place then.
 pub enum Following {
@@ -171,4 +175,103 @@ pub fn list_file(file: &[u8], out: &mut [u8]) -> Put
         return Put::NoRoom(needed);
     }
     Put::Written(write(file, out))
+}
+
+// Why a turn ended: the next line has no room; the parser wants more or refuses; the input's place passes 2^64 - 1.
+pub enum End {
+    Full,
+    Stopped(Stop),
+    TooFar,
+}
+
+// What a turn leaves: the record, the joiner, the bytes of the input consumed, and the bytes of lines written.
+pub struct AfterTurn {
+    pub parser: ContainerParser,
+    pub joiner: Joiner,
+    pub consumed: usize,
+    pub written: usize,
+    pub end: End,
+}
+
+// Puts the line of an event that a joiner handed back, if it did.
+fn put_held(out: &mut [u8], at: usize, held: Held) -> Put
+    requires { ⌜ at ≤ length (now out) ⌝ }
+    ensures { λ r. ⌜ leaves r (now (out .exit)) ≡ putOf (now (out .entry)) at (texts (handed held)) ⌝ }
+{
+    match held {
+        Held::Nothing => Put::Written(at),
+        Held::Waiting(event) => jxl_listing::put_line(out, at, Line::Shown(event)),
+    }
+}
+
+// The work of a turn on an input whose place fits.
+fn turn_from(parser: ContainerParser, joiner: Joiner, base: usize, input: &[u8], out: &mut [u8]) -> AfterTurn
+    requires { ⌜ base + length (now input) < 2 ^ 64 ⌝ }
+    ensures { λ r. ⌜ Told r (now (out .exit)) (now (out .entry)) (turnFrom base (now (input .entry)) (length (now (out .entry))) parser (joiner .held) 0) ⌝ }
+{
+    let mut p = parser;
+    let mut j = joiner;
+    let mut k = 0;
+    let mut written = 0;
+    loop {
+        match next(p, input, k) {
+            Following::Shown {
+                event,
+                parser: then,
+                at: further,
+            } => {
+                let added = j.add(place(event, base));
+                let handed = added.out;
+                match put_held(out, written, handed) {
+                    Put::Written(w) => {
+                        written = w;
+                        p = then;
+                        let held = added.next;
+                        j = held;
+                        k = further;
+                    }
+                    Put::NoRoom(_) => {
+                        return AfterTurn {
+                            parser: p,
+                            joiner: j,
+                            consumed: k,
+                            written,
+                            end: End::Full,
+                        };
+                    }
+                }
+            }
+            Following::Stopped {
+                stop,
+                parser: then,
+                at: consumed,
+            } => {
+                return AfterTurn {
+                    parser: then,
+                    joiner: j,
+                    consumed,
+                    written,
+                    end: End::Stopped(stop),
+                };
+            }
+        }
+    }
+}
+
+// One turn: the lines of the input's events, joined across turns, at the front of `out`. The input is the bytes left unread
+// and what was read behind them; it stands at `base` in the file.
+pub fn turn(parser: ContainerParser, joiner: Joiner, base: usize, input: &[u8], out: &mut [u8]) -> AfterTurn
+    ensures { λ r. ⌜ Told r (now (out .exit)) (now (out .entry)) (turnOf base (now (input .entry)) (length (now (out .entry))) parser (joiner .held)) ⌝ }
+{
+    if base <= 0xffff_ffff_ffff_ffff - input.len() {
+        turn_from(parser, joiner, base, input, out)
+    } else {
+        AfterTurn {
+            parser,
+            joiner,
+            consumed: 0,
+            written: 0,
+            end: End::TooFar,
+        }
+    }
 }
