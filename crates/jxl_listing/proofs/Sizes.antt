@@ -1,4 +1,4 @@
--- A line has at least 5 bytes and at most 56.
+-- A line has at least 7 bytes and at most 56; some lines have 7, and some 56.
 use mathlib.Core.Bool.{Bool, true, false}
 use Prim.Native.Nat.{_≤_}
 use native.Mathlib.Omega.{arith}
@@ -19,6 +19,12 @@ kind-most K.Unknown = omega arith
 kind-most K.BareCodestream = omega arith
 kind-most K.Container = omega arith
 kind-most K.Invalid = omega arith
+
+kind-least : (k : BitstreamKind) → 4 ≤ length (kindWord k)
+kind-least K.Unknown = omega arith
+kind-least K.BareCodestream = omega arith
+kind-least K.Container = omega arith
+kind-least K.Invalid = omega arith
 
 brob-most : (b : Bool) → length (brobWord b) ≤ 5
 brob-most true = omega arith
@@ -46,10 +52,10 @@ most-bytes (Shown (E.AuxEnd t)) h = simp length-append (omega (arith, type-lengt
 most-bytes (Stopped s n) h = simp length-append (omega (arith, stop-most s, decimal-most n h))
 
 pub least-bytes : LeastBytes
-least-bytes (Shown (E.Kind k)) = simp length-append (omega arith)
+least-bytes (Shown (E.Kind k)) = simp length-append (omega (arith, kind-least k))
 least-bytes (Shown E.NoMoreAux) = omega arith
 least-bytes (Shown (E.Codestream a n)) = simp length-append (omega arith)
-least-bytes (Shown (E.AuxStart t b e)) = simp length-append (omega arith)
-least-bytes (Shown (E.AuxData t a n)) = simp length-append (omega arith)
-least-bytes (Shown (E.AuxEnd t)) = simp length-append (omega arith)
+least-bytes (Shown (E.AuxStart t b e)) = simp length-append (omega (arith, type-length t))
+least-bytes (Shown (E.AuxData t a n)) = simp length-append (omega (arith, type-length t))
+least-bytes (Shown (E.AuxEnd t)) = simp length-append (omega (arith, type-length t))
 least-bytes (Stopped s n) = simp length-append (omega arith)

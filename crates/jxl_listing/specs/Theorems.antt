@@ -9,9 +9,9 @@ use Rattle.jxl_listing.specs.declared.Line.{Line}
 abbrev pub MostBytes : Type 0
 MostBytes = (l : Line) → InRange l → length (text l) ≤ 56
 
--- a line has at least 5 bytes
+-- a line has at least 7 bytes
 abbrev pub LeastBytes : Type 0
-LeastBytes = (l : Line) → 5 ≤ length (text l)
+LeastBytes = (l : Line) → 7 ≤ length (text l)
 
 -- two different lines never have the same text
 abbrev pub NoTwoAlike : Type 0
