@@ -9,7 +9,7 @@ use lib.Dec.{ltb}
 use lib.ListN.{length, length-append}
 use borrow.Author.Tests.{lt-ltb, le-ltb, ltb-false}
 use Rattle.jxl_container.specs.Bytes.{if}
-use Rattle.jxl_listing.specs.Digits.{glyph, hexDigits, decimalIn, decimal}
+use Rattle.jxl_listing.specs.Digits.{glyph, hexDigits, hex8, decimalIn, decimal}
 
 -- turns to spare change nothing
 spare : (k j n : ℕ) → n < k → n < j → decimalIn k n ≡ decimalIn j n
@@ -61,3 +61,7 @@ hex-more (suc k) n h =
 pub hex-length : (k n : ℕ) → length (hexDigits k n) ≡ k
 hex-length zero n = refl
 hex-length (suc k) n = simp (length-append, hex-length k) (omega arith)
+
+pub type-length : (t : ℕ) → length (hex8 t) ≡ 8
+unfolding hex8
+type-length t = hex-length 8 t

@@ -16,11 +16,12 @@ module _ (d : List ℕ) (at : ℕ) (w : List ℕ) where
   pub no-room : {n : ℕ} → n ≡ length w → length d < at + n → leaves (NoRoom n) d ≡ putOf d at w
   unfolding putOf
   no-room {n} m h =
-      rw (lt-leb (at + length w) (length d) (omega arith)) (ap (λ (k : ℕ). leaves (NoRoom k) d) m)
+      let over : length d < at + length w = omega arith in
+      rw lt-leb (ap (λ (k : ℕ). leaves (NoRoom k) d) m)
 
   pub room : {e : List ℕ} {r : ℕ} → at + length w ≤ length d → Pasted d at w e r → leaves (Written r) e ≡ putOf d at w
   unfolding putOf
   room {e} {r} h p =
       let bytes = p .bytes in
       let next = p .next in
-      rw (le-leb (at + length w) (length d) h) cc
+      rw le-leb cc

@@ -1,7 +1,7 @@
 -- The lines of the listing: one record a line, fields parted by tabs, types in lower-case hex, numbers decimal.
 use mathlib.Core.Bool.{Bool, true, false}
 use mathlib.Core.List.{List, [], _∷_, _++_}
-use Prim.Native.Nat.{ℕ}
+use Prim.Native.Nat.{ℕ, _^_, _<_}
 use Rattle.jxl_container.specs.declared.BitstreamKind.{BitstreamKind}
 use Rattle.jxl_container.specs.declared.BitstreamKind.the-variants as K
 use Rattle.jxl_container.specs.declared.Refusal.the-variants.{InvalidBox, ValidationFailed}
@@ -91,3 +91,16 @@ joinedFields (f ∷ fs) = f ++ rest fs
 -- the bytes of a line
 abbrev pub text : Line → List ℕ
 text l = joinedFields (fields l)
+
+-- an event's types fit 32 bits and its numbers 64, as those of the code do
+abbrev pub EventInRange : Event → Type 0
+EventInRange (E.Kind k) = Unit {0}
+EventInRange E.NoMoreAux = Unit {0}
+EventInRange (E.Codestream a n) = (a < 2 ^ 64) × (n < 2 ^ 64)
+EventInRange (E.AuxStart t b e) = t < 2 ^ 32
+EventInRange (E.AuxData t a n) = (t < 2 ^ 32) × (a < 2 ^ 64) × (n < 2 ^ 64)
+EventInRange (E.AuxEnd t) = t < 2 ^ 32
+
+abbrev pub InRange : Line → Type 0
+InRange (Shown e) = EventInRange e
+InRange (Stopped s n) = n < 2 ^ 64

@@ -21,6 +21,7 @@ pub(crate) fn copy_in(out: &mut [u8], at: usize, word: &[u8]) -> usize
     o
 }
 
+// One byte.
 pub(crate) fn put_byte(out: &mut [u8], at: usize, b: u8) -> usize
     requires { ⌜ at < length (now out) ⌝ }
     ensures { λ r. ⌜ Behind (now (out .entry)) at (b ∷ []) (now (out .exit)) r ⌝ }

@@ -10,6 +10,7 @@ ghost use lib.ListN.{length};
 ghost use Rattle.jxl_listing.specs.Lines.{kindWord, brobWord, endWord, stopWord};
 ghost use Rattle.jxl_listing.specs.Putting.{Behind};
 
+// What the file is.
 pub(crate) fn put_kind(out: &mut [u8], at: usize, kind: BitstreamKind) -> usize
     requires { ⌜ at + 10 ≤ length (now out) ⌝ }
     ensures { λ r. ⌜ Behind (now (out .entry)) at (9 ∷ kindWord kind) (now (out .exit)) r ⌝ }
@@ -49,6 +50,7 @@ pub(crate) fn put_end(out: &mut [u8], at: usize, to_end: bool) -> usize
     }
 }
 
+// The number of a refusal.
 fn put_refusal(out: &mut [u8], at: usize, refusal: Refusal) -> usize
     requires { ⌜ at + 9 ≤ length (now out) ⌝ }
     ensures { λ r. ⌜ Behind (now (out .entry)) at (9 ∷ stopWord (Stop.Refused refusal)) (now (out .exit)) r ⌝ }
@@ -60,6 +62,7 @@ fn put_refusal(out: &mut [u8], at: usize, refusal: Refusal) -> usize
     }
 }
 
+// Why the listing ends.
 pub(crate) fn put_stop(out: &mut [u8], at: usize, stop: Stop) -> usize
     requires { ⌜ at + 9 ≤ length (now out) ⌝ }
     ensures { λ r. ⌜ Behind (now (out .entry)) at (9 ∷ stopWord stop) (now (out .exit)) r ⌝ }
