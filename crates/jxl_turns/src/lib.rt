@@ -205,7 +205,13 @@ fn put_held(out: &mut [u8], at: usize, held: Held) -> Put
 }
 
 // The work of a turn on an input whose place fits.
-fn turn_from(parser: ContainerParser, joiner: Joiner, base: usize, input: &[u8], out: &mut [u8]) -> AfterTurn
+fn turn_from(
+    parser: ContainerParser,
+    joiner: Joiner,
+    base: usize,
+    input: &[u8],
+    out: &mut [u8],
+) -> AfterTurn
     requires { ⌜ base + length (now input) < 2 ^ 64 ⌝ }
     ensures { λ r. ⌜ Told r (now (out .exit)) (now (out .entry)) (turnFrom base (now (input .entry)) (length (now (out .entry))) parser (joiner .held) 0) ⌝ }
 {
@@ -260,7 +266,13 @@ fn turn_from(parser: ContainerParser, joiner: Joiner, base: usize, input: &[u8],
 
 // One turn: the lines of the input's events, joined across turns, at the front of `out`. The input is the bytes left unread
 // and what was read behind them; it stands at `base` in the file.
-pub fn turn(parser: ContainerParser, joiner: Joiner, base: usize, input: &[u8], out: &mut [u8]) -> AfterTurn
+pub fn turn(
+    parser: ContainerParser,
+    joiner: Joiner,
+    base: usize,
+    input: &[u8],
+    out: &mut [u8],
+) -> AfterTurn
     ensures { λ r. ⌜ Told r (now (out .exit)) (now (out .entry)) (turnOf base (now (input .entry)) (length (now (out .entry))) parser (joiner .held)) ⌝ }
 {
     if base <= 0xffff_ffff_ffff_ffff - input.len() {

@@ -31,7 +31,7 @@ same-length c = search needs
 
 -- src/lib.rt:197:1
 returns-2 : tie.Need-returns-2
-returns-2 c = c .before .before .put-line .ensures ∙ rw (c .before .before .before .before .before .event .given .1, append-nil)
+returns-2 c = c .before .before .put-line .ensures ∙ rw (c .before .before .before .before .before .held .given .1, append-nil)
 
 pub put-held-spec : {M : Type 1} → statement M
 put-held-spec =
