@@ -152,3 +152,28 @@ pub line-put : (base : ℕ) (h : Held) (e placed : Event) (added : Added) (out :
 line-put base h e placed added out w p a r =
     let same : added ≡ adding h (shifted base e) = a ∙ ap (adding h) p in
     (r ∙ ap (λ (x : Added). putOf out w (texts (handed (x .out)))) same, ap (λ (x : Added). x .next .held) (sym same))
+
+-- whether the input's place in the file fits
+module _ (base : ℕ) (s : List ℕ) (room : ℕ) (p : ContainerParser) (h : Held) where
+  pub turn-near : base + length s < 2 ^ 64 → turnFrom base s room p h 0 ≡ turnOf base s room p h
+  unfolding turnOf
+  turn-near f = rw (turnOf, lt-ltb (base + length s) 18446744073709551616 f)
+
+  pub turn-too-far : 2 ^ 64 ≤ base + length s → over End.TooFar p h 0 ≡ turnOf base s room p h
+  unfolding turnOf
+  turn-too-far f = rw (turnOf, le-ltb (base + length s) 18446744073709551616 f)
+
+-- two answers that meet the promise of `turn`, with the buffer then, are equal
+abbrev answer : ContainerParser → Held → ℕ → ℕ → End → AfterTurn
+answer p h k w e = record { parser = p; joiner = record { held = h }; consumed = k; written = w; end = e }
+
+pub one-turn : (r r′ : AfterTurn) (out out′ buffer : List ℕ) (t : Turned) → Spec.Told r out buffer t → Spec.Told r′ out′ buffer t → (r ≡ r′) × (out ≡ out′)
+one-turn r r′ out out′ buffer t a b = (answers r a ∙ sym (answers r′ b), a .buffer-is ∙ sym (b .buffer-is))
+  where
+    answers : {d : List ℕ} (x : AfterTurn) → Spec.Told x d buffer t → x ≡ answer (t .parser) (t .held) (t .consumed) (length (t .lines)) (t .end)
+    answers x y =
+        ap (λ (p : ContainerParser). answer p (x .joiner .held) (x .consumed) (x .written) (x .end)) (y .parser-is)
+        ∙ ap (λ (h : Held). answer (t .parser) h (x .consumed) (x .written) (x .end)) (y .held-is)
+        ∙ ap (λ (k : ℕ). answer (t .parser) (t .held) k (x .written) (x .end)) (y .consumed-is)
+        ∙ ap (λ (w : ℕ). answer (t .parser) (t .held) (t .consumed) w (x .end)) (y .written-is)
+        ∙ ap (answer (t .parser) (t .held) (t .consumed) (length (t .lines))) (y .end-is)

@@ -10,31 +10,22 @@ use Rattle.jxl_turns.proofs.Paste.{list-fits, list-refused}
 use borrow.Author.Needs.{needs}
 use Rattle.jxl_turns.proofs.list_file.Statement.{statement}
 use Rattle.jxl_turns.proofs.list_file.Tie as tie
-use Rattle.jxl_turns.proofs.list_file.Reads as reads
-use Rattle.jxl_turns.proofs.list_file.Lts as lts
-use Rattle.jxl_turns.proofs.measure.Reads as measure-reads
-use Rattle.jxl_turns.proofs.write.Reads as write-reads
 
--- src/lib.rt:166:9
 measure-requires : tie.Need-measure-requires
 measure-requires c κs = search needs
 
--- src/lib.rt:168:9
 returns : tie.Need-returns
 returns c =
     let d = now (c .before .before .before .before .args .out) in
     let w = fileText (now (c .before .before .before .before .args .file)) in
     ap (λ (n : ℕ). leaves (NoRoom n) d) (c .before .measure .ensures) ∙ sym (list-refused d w (omega arith))
 
--- src/lib.rt:170:18
 write-requires : tie.Need-write-requires
 write-requires c κs = search needs
 
--- src/lib.rt:163:1
 same-length : tie.Need-same-length
 same-length c = search needs
 
--- src/lib.rt:163:1
 returns-2 : tie.Need-returns-2
 returns-2 c =
     let d = now (c .before .before .before .before .before .before .before .before .args .out) in

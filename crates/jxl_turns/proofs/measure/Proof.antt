@@ -12,12 +12,6 @@ use Rattle.jxl_turns.specs.declared.Following.the-variants as N
 use Rattle.jxl_turns.proofs.Text.{Rest, count, following-shown, following-stopped, rest-file, one-line, last-line}
 use Rattle.jxl_turns.proofs.measure.Statement.{statement}
 use Rattle.jxl_turns.proofs.measure.Tie as tie
-use Rattle.jxl_turns.proofs.measure.Reads as reads
-use Rattle.jxl_turns.proofs.measure.Lts as lts
-use Rattle.jxl_container.proofs.ContainerParser.new.Reads as new-reads
-use Rattle.jxl_listing.proofs.line_length.Reads as line-length-reads
-use Rattle.jxl_turns.proofs.add.Reads as add-reads
-use Rattle.jxl_turns.proofs.next.Reads as next-reads
 
 abbrev Inv-loop : tie.InvT-loop
 Inv-loop file parser₀ at₀ total₀ parser at total =
@@ -27,34 +21,27 @@ Inv-loop file parser₀ at₀ total₀ parser at total =
 abbrev μ-loop : tie.MeasureT-loop
 μ-loop file parser₀ at₀ total₀ parser at total = count parser at file
 
--- src/lib.rt:95:9
 new-requires : tie.Need-new-requires Inv-loop μ-loop
 new-requires c κs = tt
 
--- src/lib.rt:98:5
 loop-holds : tie.Need-loop-holds Inv-loop μ-loop
 loop-holds c =
     let f = now (c .before .before .args .file) in
     let all : Rest (c .new .result) 0 f ≡ fileText f = ap (λ (p : ContainerParser). Rest p 0 f) (c .new .ensures) ∙ rest-file f in
     (omega arith, omega (arith, ap length all), omega (arith, ap length all))
 
--- src/lib.rt:99:15
 next-requires : tie.Need-next-requires Inv-loop μ-loop
 next-requires c κs = c .loop .inv .0
 
--- src/lib.rt:101:17
 enum-known-event : tie.Need-enum-known-event Inv-loop μ-loop
 enum-known-event c = search needs
 
--- src/lib.rt:105:36
 line-length-requires : tie.Need-line-length-requires Inv-loop μ-loop
 line-length-requires c κs = tt
 
--- src/lib.rt:105:17
 add-requires : tie.Need-add-requires Inv-loop μ-loop
 add-requires c κs = tt
 
--- src/lib.rt:98:5
 loop-less : tie.Need-loop-less Inv-loop μ-loop
 loop-less c =
     let f = now (c .before .before .before .before .before .before .before .before .before .args .file) in
@@ -64,7 +51,6 @@ loop-less c =
     let then = following-shown (l .parser) f (l .at) (l .inv .0) found in
     omega (arith, then .2)
 
--- src/lib.rt:98:5
 loop-again : tie.Need-loop-again Inv-loop μ-loop
 loop-again c =
     let f = now (c .before .before .before .before .before .before .before .before .before .args .file) in
@@ -77,19 +63,15 @@ loop-again c =
     let sum = one-line (length (fileText f)) _ _ _ (l .total) long (l .inv .1) (l .inv .2) in
     (then .1, sum .0, c .add .ensures ∙ sum .1)
 
--- src/lib.rt:110:17
 enum-known-stop : tie.Need-enum-known-stop Inv-loop μ-loop
 enum-known-stop c = search needs
 
--- src/lib.rt:114:35
 line-length-requires-2 : tie.Need-line-length-requires-2 Inv-loop μ-loop
 line-length-requires-2 c κs = tt
 
--- src/lib.rt:114:17
 add-requires-2 : tie.Need-add-requires-2 Inv-loop μ-loop
 add-requires-2 c κs = tt
 
--- src/lib.rt:114:17
 returns : tie.Need-returns Inv-loop μ-loop
 returns c =
     let f = now (c .before .before .before .before .before .before .before .before .before .args .file) in

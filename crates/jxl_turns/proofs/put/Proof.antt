@@ -7,37 +7,27 @@ use Rattle.jxl_turns.proofs.Paste.{put-written, put-refused}
 use borrow.Author.Needs.{needs}
 use Rattle.jxl_turns.proofs.put.Statement.{statement}
 use Rattle.jxl_turns.proofs.put.Tie as tie
-use Rattle.jxl_turns.proofs.put.Reads as reads
-use Rattle.jxl_turns.proofs.put.Lts as lts
-use Rattle.jxl_listing.proofs.put_line.Reads as put-line-reads
 
--- src/lib.rt:156:11
 put-line-requires : tie.Need-put-line-requires
 put-line-requires c κs = search needs
 
--- src/lib.rt:157:22
 enum-known-next : tie.Need-enum-known-next
 enum-known-next c = search needs
 
--- src/lib.rt:158:27
 enum-told : tie.Need-enum-told
 enum-told c = search needs
 
--- src/lib.rt:152:1
 same-length : tie.Need-same-length
 same-length c = search needs
 
--- src/lib.rt:152:1
 returns : tie.Need-returns
 returns c =
     let a = c .before .before .before .before .before .before .before .before .args in
     put-written (now (a .out)) (a .at) (text (a .line)) _ (c .before .before .before .before .before .before .before .before .pre) (ap (λ (r : Put). leaves r (c .before .before .before .before .before .put-line .last .0)) (sym (c .before .next .given .1)) ∙ c .before .before .before .before .before .put-line .ensures)
 
--- src/lib.rt:152:1
 same-length-2 : tie.Need-same-length-2
 same-length-2 c = search needs
 
--- src/lib.rt:152:1
 returns-2 : tie.Need-returns-2
 returns-2 c =
     let a = c .before .before .before .before .before .before .before .args in

@@ -5,31 +5,22 @@ use Rattle.jxl_turns.proofs.Paste.{put-nothing}
 use borrow.Author.Needs.{needs}
 use Rattle.jxl_turns.proofs.put_held.Statement.{statement}
 use Rattle.jxl_turns.proofs.put_held.Tie as tie
-use Rattle.jxl_turns.proofs.put_held.Reads as reads
-use Rattle.jxl_turns.proofs.put_held.Lts as lts
-use Rattle.jxl_listing.proofs.put_line.Reads as put-line-reads
 
--- src/lib.rt:202:26
 enum-told : tie.Need-enum-told
 enum-told c = search needs
 
--- src/lib.rt:203:23
 enum-known-held : tie.Need-enum-known-held
 enum-known-held c = search needs
 
--- src/lib.rt:203:33
 put-line-requires : tie.Need-put-line-requires
 put-line-requires c κs = search needs
 
--- src/lib.rt:197:1
 returns : tie.Need-returns
 returns c = rw (c .enum-told .given .1) (sym (put-nothing (now (c .before .before .before .args .out)) (c .before .before .before .args .at) (c .before .before .before .pre)))
 
--- src/lib.rt:197:1
 same-length : tie.Need-same-length
 same-length c = search needs
 
--- src/lib.rt:197:1
 returns-2 : tie.Need-returns-2
 returns-2 c = c .before .before .put-line .ensures ∙ rw (c .before .before .before .before .before .held .given .1, append-nil)
 

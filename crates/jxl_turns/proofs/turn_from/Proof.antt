@@ -15,12 +15,6 @@ use Rattle.jxl_turns.proofs.Text.{count, following-shown}
 use Rattle.jxl_turns.proofs.Turning.{line-put, next-place, Going, going-first, going-on, going-full, going-stopped}
 use Rattle.jxl_turns.proofs.turn_from.Statement.{statement}
 use Rattle.jxl_turns.proofs.turn_from.Tie as tie
-use Rattle.jxl_turns.proofs.turn_from.Reads as reads
-use Rattle.jxl_turns.proofs.turn_from.Lts as lts
-use Rattle.jxl_files.proofs.Joiner.add.Reads as add-reads
-use Rattle.jxl_turns.proofs.next.Reads as next-reads
-use Rattle.jxl_turns.proofs.place.Reads as place-reads
-use Rattle.jxl_turns.proofs.put_held.Reads as put-held-reads
 
 abbrev Inv-loop : tie.InvT-loop
 Inv-loop base input out₀ p₀ j₀ k₀ written₀ out p j k written = Going base input out₀ (turnFrom base input (length out₀) p₀ (j₀ .held) 0) out p (j .held) k written
@@ -28,21 +22,17 @@ Inv-loop base input out₀ p₀ j₀ k₀ written₀ out p j k written = Going b
 abbrev μ-loop : tie.MeasureT-loop
 μ-loop base input out₀ p₀ j₀ k₀ written₀ out p j k written = count p k input
 
--- src/lib.rt:216:5
 loop-holds : tie.Need-loop-holds Inv-loop μ-loop
 loop-holds c =
     let a = c .before .before .args in
     going-first (a .base) (now (a .input)) (now (a .out)) (a .parser) (a .joiner .held)
 
--- src/lib.rt:217:15
 next-requires : tie.Need-next-requires Inv-loop μ-loop
 next-requires c κs = c .loop .inv .inside
 
--- src/lib.rt:219:17
 enum-known-event : tie.Need-enum-known-event Inv-loop μ-loop
 enum-known-event c = search needs
 
--- src/lib.rt:223:35
 place-requires : tie.Need-place-requires Inv-loop μ-loop
 place-requires c κs =
     let a = c .before .before .before .before .before .before .before .args in
@@ -51,19 +41,15 @@ place-requires c κs =
     let found : nextOf (l .p) (l .k) (drop (l .k) (now (a .input))) ≡ N.Shown (n .0) (n .1 .0) (n .1 .1 .0) = sym (c .before .before .before .next .ensures) ∙ c .before .event .given .1 in
     omega (arith, c .before .before .before .before .before .before .before .pre, next-place (l .p) (now (a .input)) (l .k) (l .inv .inside) found)
 
--- src/lib.rt:223:21
 add-requires : tie.Need-add-requires Inv-loop μ-loop
 add-requires c κs = tt
 
--- src/lib.rt:225:23
 put-held-requires : tie.Need-put-held-requires Inv-loop μ-loop
 put-held-requires c κs = c .before .before .before .before .before .before .before .loop .inv .room
 
--- src/lib.rt:226:34
 enum-known-w : tie.Need-enum-known-w Inv-loop μ-loop
 enum-known-w c = search needs
 
--- src/lib.rt:216:5
 loop-less : tie.Need-loop-less Inv-loop μ-loop
 loop-less c =
     let a = c .before .before .before .before .before .before .before .before .before .before .before .before .before .before .before .before .before .args in
@@ -72,7 +58,6 @@ loop-less c =
     let found : nextOf (l .p) (l .k) (drop (l .k) (now (a .input))) ≡ N.Shown (n .0) (n .1 .0) (n .1 .1 .0) = sym (c .before .before .before .before .before .before .before .before .before .before .before .before .before .next .ensures) ∙ c .before .before .before .before .before .before .before .before .before .before .before .event .given .1 in
     omega (arith, following-shown (l .p) (now (a .input)) (l .k) (l .inv .inside) found .2)
 
--- src/lib.rt:216:5
 loop-again : tie.Need-loop-again Inv-loop μ-loop
 loop-again c =
     let a = c .before .before .before .before .before .before .before .before .before .before .before .before .before .before .before .before .before .args in
@@ -84,15 +69,12 @@ loop-again c =
     subst (λ (h : Held). Going (a .base) (now (a .input)) (now (a .out)) (turnFrom (a .base) (now (a .input)) (length (now (a .out))) (a .parser) (a .joiner .held) 0) (put .last .0) (n .1 .0) h (n .1 .1 .0) (c .before .before .w .given .0 .0)) (into .1)
     (going-on (a .base) (now (a .input)) (now (a .out)) _ (l .out) (l .p) (l .j .held) (l .k) (l .written) (l .inv) (put .last .0) found (into .0))
 
--- src/lib.rt:239:34
 enum-told : tie.Need-enum-told Inv-loop μ-loop
 enum-told c = search needs
 
--- src/lib.rt:234:25
 same-length : tie.Need-same-length Inv-loop μ-loop
 same-length c = c .before .before .before .before .put-held .kept .0 ∙ c .before .before .before .before .before .before .before .before .before .before .before .before .loop .inv .same
 
--- src/lib.rt:234:25
 returns : tie.Need-returns Inv-loop μ-loop
 returns c =
     let a = c .before .before .before .before .before .before .before .before .before .before .before .before .before .before .before .args in
@@ -103,15 +85,12 @@ returns c =
     let into = line-put (a .base) (l .j .held) (n .0) (c .before .before .before .before .before .before .before .place .result) (c .before .before .before .before .before .before .add .result) (l .out) (l .written) (c .before .before .before .before .before .before .before .place .ensures) (c .before .before .before .before .before .before .add .ensures) (ap (λ (r : Put). leaves r (put .last .0)) (sym (c .enum-told .given .1)) ∙ put .ensures) in
     going-full (a .base) (now (a .input)) (now (a .out)) (turnFrom (a .base) (now (a .input)) (length (now (a .out))) (a .parser) (a .joiner .held) 0) (l .out) (l .p) (l .j .held) (l .k) (l .written) (l .inv) (put .last .0) (l .j) refl found (into .0) .0
 
--- src/lib.rt:245:17
 enum-known-stop : tie.Need-enum-known-stop Inv-loop μ-loop
 enum-known-stop c = search needs
 
--- src/lib.rt:249:17
 same-length-2 : tie.Need-same-length-2 Inv-loop μ-loop
 same-length-2 c = c .before .before .before .before .loop .inv .same
 
--- src/lib.rt:249:17
 returns-2 : tie.Need-returns-2 Inv-loop μ-loop
 returns-2 c =
     let a = c .before .before .before .before .before .before .before .args in

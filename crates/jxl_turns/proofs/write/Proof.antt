@@ -14,11 +14,6 @@ use Rattle.jxl_turns.proofs.Text.{Rest, count, following-shown, followi
 use Rattle.jxl_turns.proofs.Paste.{kept, line-fits, next-line, paste-all}
 use Rattle.jxl_turns.proofs.write.Statement.{statement}
 use Rattle.jxl_turns.proofs.write.Tie as tie
-use Rattle.jxl_turns.proofs.write.Reads as reads
-use Rattle.jxl_turns.proofs.write.Lts as lts
-use Rattle.jxl_container.proofs.ContainerParser.new.Reads as new-reads
-use Rattle.jxl_turns.proofs.next.Reads as next-reads
-use Rattle.jxl_turns.proofs.put.Reads as put-reads
 
 abbrev Inv-loop : tie.InvT-loop
 Inv-loop file out₀ parser₀ at₀ written₀ out parser at written =
@@ -28,25 +23,20 @@ Inv-loop file out₀ parser₀ at₀ written₀ out parser at written =
 abbrev μ-loop : tie.MeasureT-loop
 μ-loop file out₀ parser₀ at₀ written₀ out parser at written = count parser at file
 
--- src/lib.rt:126:9
 new-requires : tie.Need-new-requires Inv-loop μ-loop
 new-requires c κs = tt
 
--- src/lib.rt:129:5
 loop-holds : tie.Need-loop-holds Inv-loop μ-loop
 loop-holds c =
     let f = now (c .before .before .before .args .file) in
     (omega arith, omega arith, sym (ap (λ (p : ContainerParser). Rest p 0 f) (c .new .ensures) ∙ rest-file f), refl)
 
--- src/lib.rt:130:15
 next-requires : tie.Need-next-requires Inv-loop μ-loop
 next-requires c κs = c .loop .inv .0
 
--- src/lib.rt:132:17
 enum-known-event : tie.Need-enum-known-event Inv-loop μ-loop
 enum-known-event c = search needs
 
--- src/lib.rt:136:17
 put-requires : tie.Need-put-requires Inv-loop μ-loop
 put-requires c κs =
     let f = now (c .before .before .before .before .before .before .before .before .before .args .file) in
@@ -55,7 +45,6 @@ put-requires c κs =
     let then = following-shown (l .parser) f (l .at) (l .inv .0) found in
     line-fits (fileText f) (now (c .before .before .before .before .before .before .before .before .before .args .out)) (l .out) (text (L.Shown (c .before .before .event .given .0 .0))) (Rest (c .before .before .event .given .0 .1 .0) (c .before .before .event .given .0 .1 .1 .0) f) (l .written) (c .before .before .before .before .before .before .before .before .before .pre) (l .inv .1) (l .inv .2 ∙ then .0) (l .inv .3)
 
--- src/lib.rt:129:5
 loop-less : tie.Need-loop-less Inv-loop μ-loop
 loop-less c =
     let f = now (c .before .before .before .before .before .before .before .before .before .before .before .before .args .file) in
@@ -64,7 +53,6 @@ loop-less c =
     let then = following-shown (l .parser) f (l .at) (l .inv .0) found in
     omega (arith, then .2)
 
--- src/lib.rt:129:5
 loop-again : tie.Need-loop-again Inv-loop μ-loop
 loop-again c =
     let f = now (c .before .before .before .before .before .before .before .before .before .before .before .before .args .file) in
@@ -74,11 +62,9 @@ loop-again c =
     let put = next-line (fileText f) (now (c .before .before .before .before .before .before .before .before .before .before .before .before .args .out)) (l .out) (text (L.Shown (c .before .before .before .before .before .event .given .0 .0))) (Rest (c .before .before .before .before .before .event .given .0 .1 .0) (c .before .before .before .before .before .event .given .0 .1 .1 .0) f) (l .written) (c .before .before .before .before .before .before .before .before .before .before .before .before .pre) (l .inv .1) (l .inv .2 ∙ then .0) (l .inv .3) (c .before .before .put .result) (c .before .before .put .last .0) (c .before .before .put .ensures) in
     (then .1, put .0, put .1, put .2)
 
--- src/lib.rt:141:17
 enum-known-stop : tie.Need-enum-known-stop Inv-loop μ-loop
 enum-known-stop c = search needs
 
--- src/lib.rt:145:17
 put-requires-2 : tie.Need-put-requires-2 Inv-loop μ-loop
 put-requires-2 c κs =
     let f = now (c .before .before .before .before .before .before .before .before .before .args .file) in
@@ -87,7 +73,6 @@ put-requires-2 c κs =
     let last : drop (l .written) (fileText f) ≡ text (L.Stopped (c .before .before .stop .given .0 .0) (c .before .before .stop .given .0 .1 .1 .0)) ++ [] = l .inv .2 ∙ following-stopped (l .parser) f (l .at) found ∙ sym (append-nil _) in
     line-fits (fileText f) (now (c .before .before .before .before .before .before .before .before .before .args .out)) (l .out) (text (L.Stopped (c .before .before .stop .given .0 .0) (c .before .before .stop .given .0 .1 .1 .0))) ([]) (l .written) (c .before .before .before .before .before .before .before .before .before .pre) (l .inv .1) (last) (l .inv .3)
 
--- src/lib.rt:145:17
 same-length : tie.Need-same-length Inv-loop μ-loop
 same-length c =
     let f = now (c .before .before .before .before .before .before .before .before .before .before .before .before .args .file) in
@@ -96,7 +81,6 @@ same-length c =
     let last : drop (l .written) (fileText f) ≡ text (L.Stopped (c .before .before .before .before .before .stop .given .0 .0) (c .before .before .before .before .before .stop .given .0 .1 .1 .0)) ++ [] = l .inv .2 ∙ following-stopped (l .parser) f (l .at) found ∙ sym (append-nil _) in
     c .before .before .put2 .kept .0 ∙ kept (fileText f) (now (c .before .before .before .before .before .before .before .before .before .before .before .before .args .out)) (l .out) (text (L.Stopped (c .before .before .before .before .before .stop .given .0 .0) (c .before .before .before .before .before .stop .given .0 .1 .1 .0))) [] (l .written) (c .before .before .before .before .before .before .before .before .before .before .before .before .pre) (l .inv .1) last (l .inv .3)
 
--- src/lib.rt:145:17
 returns : tie.Need-returns Inv-loop μ-loop
 returns c =
     let f = now (c .before .before .before .before .before .before .before .before .before .before .before .before .args .file) in
