@@ -4,20 +4,20 @@ use mathlib.Core.Path.{_≡_, refl, sym, ap, _∙_}
 use mathlib.Core.Bool.{Bool, true, false}
 use mathlib.Core.Logic.{_⊎_, inl, inr}
 use mathlib.Core.List.{List, [], _∷_, _++_, append-nil}
-use Prim.Native.Nat.{ℕ, zero, suc, _+_, _-_, _%_, _<_, _≤_, min}
-use native.Mathlib.Nat.{add-zero, zero-add, add-assoc, mod-lt}
+use Prim.Native.Nat.{ℕ, _+_, _-_, _%_, _<_, _≤_, min}
+use native.Mathlib.Nat.{zero-add, add-assoc}
 use native.Mathlib.Omega.{arith}
 use lib.Dec.{ltb, leb, eqb}
 use lib.ListN.{length, drop, length-append, length-drop}
 use lib.Seq.{drop-drop, drop-append-le}
-use borrow.Author.Tests.{lt-ltb, le-ltb, le-leb, lt-leb, eq-eqb, ne-eqb, ltb-true, ltb-false, leb-true, leb-false, eqb-true, eqb-false}
-use Rattle.jxl_container.specs.Bytes.{if, or, be32, empty}
-use Rattle.jxl_container.specs.Record.{number, at, kindOf, under, less, toEnd, overIndex, noIndex, impossibleIn, impossible, refusedIn, isRefused}
+use borrow.Author.Tests.{le-ltb, le-leb, lt-leb, ne-eqb, ltb-true, ltb-false, leb-true, leb-false, eqb-true, eqb-false}
+use Rattle.jxl_container.specs.Bytes.{if, or, be32}
+use Rattle.jxl_container.specs.Record.{at, under, less, toEnd, overIndex, impossibleIn, impossible, isRefused}
 use Rattle.jxl_container.specs.Header.{Header, short, bad, box, headerOf}
 use Rattle.jxl_container.specs.Signature.{signatureOf}
 use Rattle.jxl_container.specs.Types.{jxlc, jxlp, brob, reserved}
-use Rattle.jxl_container.specs.Step.{Told, shows, wants, refuses, refuse, refuseBox, shifted, ahead, inCode, codePart, codeStep, auxPart, row, indexStep, innerStep, jxlcStep, jxlpNext, jxlpStep, brobStep, boxStep, headerStep, signatureStep, awaited, stateStep, stepOf}
-use Rattle.jxl_container.proofs.Step.{shifted-shifted, ahead-zero, ahead-ahead, empty-no, code-wants, code-pending, code-shows, index-wants, index-right, index-wrong, inner-wants, inner-reserved, inner-shows, box-jxlc, box-jxlp, box-brob, box-aux, step-empty, step-state, step-impossible}
+use Rattle.jxl_container.specs.Step.{Told, shows, wants, refuses, shifted, ahead, inCode, codePart, codeStep, auxPart, row, indexStep, innerStep, jxlcStep, jxlpNext, jxlpStep, brobStep, boxStep, headerStep, signatureStep, stateStep, stepOf}
+use Rattle.jxl_container.proofs.Step.{ahead-zero, ahead-ahead, code-wants, code-pending, code-shows, index-wants, index-right, index-wrong, inner-wants, inner-reserved, inner-shows, box-jxlc, box-jxlp, box-brob, box-aux, step-empty, step-state, step-impossible}
 use Rattle.jxl_container.proofs.Laws.{stays}
 use Rattle.jxl_container.proofs.Header.{header-fits, header-short}
 use Rattle.jxl_container.proofs.Signature.{is-short-bare}

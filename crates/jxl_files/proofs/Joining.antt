@@ -1,20 +1,19 @@
 -- The joiner hands back the joined events.
 use mathlib.Core.Path.{_≡_, refl, sym, ap, _∙_}
 use mathlib.Core.Bool.{Bool, true, false}
-use mathlib.Core.List.{List, [], _∷_, _++_}
-use Prim.Native.Nat.{ℕ, _+_, _-_, _^_, _<_, _≤_, min}
+use mathlib.Core.List.{List, [], _∷_}
+use Prim.Native.Nat.{ℕ, _+_, _-_, _^_, _<_, _≤_}
 use native.Mathlib.Nat.{add-assoc}
 use native.Mathlib.Omega.{arith}
 use lib.Dec.{ltb, leb, eqb}
-use borrow.Author.Tests.{eq-eqb, ne-eqb, eqb-true, eqb-false, lt-ltb, le-ltb, le-leb, lt-leb, leb-true, leb-false}
+use borrow.Author.Tests.{eq-eqb, ne-eqb, eqb-true, eqb-false, lt-ltb, le-ltb, leb-true, leb-false}
 use Rattle.jxl_container.specs.Bytes.{if, and}
 use Rattle.jxl_container.specs.declared.parse.Event.{Event}
 use Rattle.jxl_container.specs.declared.parse.Event.the-variants as E
 use Rattle.jxl_files.specs.Joined.{codeAt, auxAt, joins, lengthOf, endOf, longer, before, joined}
-use Rattle.jxl_files.specs.Joiner.{adding, extends, handed, run, Counted, AllCounted}
+use Rattle.jxl_files.specs.Joiner.{run, Counted, AllCounted}
 use Rattle.jxl_files.specs.Theorems.{JoinerJoins}
-use Rattle.jxl_files.specs.declared.Held.{Held}
-use Rattle.jxl_files.specs.declared.Held.the-variants.{Nothing, Waiting}
+use Rattle.jxl_files.specs.declared.Held.the-variants.{Waiting}
 use Rattle.jxl_files.proofs.Never.{never}
 
 -- the tests of the code

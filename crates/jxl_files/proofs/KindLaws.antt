@@ -3,7 +3,7 @@
 use mathlib.Core.Path.{_≡_, refl, sym, ap, _∙_, subst}
 use mathlib.Core.Bool.{Bool, true, false}
 use mathlib.Core.List.{List, [], _∷_}
-use Prim.Native.Nat.{ℕ, _+_, _-_, _%_, _<_}
+use Prim.Native.Nat.{ℕ, _+_, _-_, _%_}
 use native.Mathlib.Omega.{arith}
 use lib.Dec.{ltb, leb, eqb}
 use lib.ListN.{length, drop}
@@ -29,18 +29,17 @@ use Rattle.jxl_container.specs.declared.DetectState.the-variants as S
 use Rattle.jxl_container.specs.declared.ContainerParser.{ContainerParser}
 use Rattle.jxl_container.specs.declared.parse.Event.{Event}
 use Rattle.jxl_container.specs.declared.parse.Event.the-variants as E
-use Rattle.jxl_files.specs.Grammar.{file}
-use Rattle.jxl_files.specs.Joined.{codeAt, auxAt, longer, lengthOf, before, joined}
-use Rattle.jxl_files.specs.Feeding.{Seen, events, take, feeding, bytesOf, Takes, more, waits, ends}
+use Rattle.jxl_files.specs.Joined.{codeAt, auxAt, before, joined}
+use Rattle.jxl_files.specs.Feeding.{Seen, events, feeding, bytesOf, Takes, more, waits, ends}
 use Rattle.jxl_files.specs.Theorems.{kindTold, KindIsTold, KindOfAFile, RefusalKeepsKind}
 use Rattle.jxl_files.proofs.Never.{never}
 use Rattle.jxl_files.proofs.Taking.{takes}
 use Rattle.jxl_files.proofs.Theorems.{whole-feed, every-cut, every-cut-of-a-file}
 
--- a codestream payload that ends is a container's
-abbrev Ends : BitstreamKind → Left → Type 0
-Ends k ToEnd = Unit {0}
-Ends k (Bytes m) = K.Container ≡ k
+-- only a container's codestream payload ends
+abbrev MayEnd : BitstreamKind → Left → Type 0
+MayEnd k ToEnd = Unit {0}
+MayEnd k (Bytes m) = K.Container ≡ k
 
 -- a state behind the signature, of kind k
 abbrev Of : BitstreamKind → DetectState → Type 0
@@ -49,7 +48,7 @@ Of k S.WaitingBoxHeader = K.Container ≡ k
 Of k (S.WaitingJxlpIndex l) = K.Container ≡ k
 Of k (S.WaitingInnerType l) = K.Container ≡ k
 Of k (S.InAuxBox t l) = K.Container ≡ k
-Of k (S.InCodestream x l pending) = (x ≡ k) × Ends k l
+Of k (S.InCodestream x l pending) = (x ≡ k) × MayEnd k l
 Of k (S.Refused x r) = x ≡ k
 
 kind-is : {k : BitstreamKind} (d : DetectState) → Of k d → kindIn d ≡ k
@@ -78,7 +77,7 @@ left-ahead n (refuses r q c) = refl
 stays-ahead : (n : ℕ) (t : Told) → Stays K.Container t → Stays K.Container (ahead n t)
 stays-ahead n t i = subst (λ (q : ContainerParser). Of K.Container (q .state)) (left-ahead n t) i
 
-stays-part : (j : JxlpIndexState) (k : BitstreamKind) (l : Left) (n : ℕ) → Ends k l → Stays k (codePart j k l n)
+stays-part : (j : JxlpIndexState) (k : BitstreamKind) (l : Left) (n : ℕ) → MayEnd k l → Stays k (codePart j k l n)
 stays-part j k ToEnd n f = (refl, tt)
 stays-part j k (Bytes m) n f = go (leb m n) refl
   where
@@ -86,13 +85,13 @@ stays-part j k (Bytes m) n f = go (leb m n) refl
     go true e = rw e f
     go false e = rw e (refl, f)
 
-stays-code : (j : JxlpIndexState) (k : BitstreamKind) (l : Left) (pending : Bool) (s : List ℕ) → Ends k l → Stays k (codeStep j k l pending s)
+stays-code : (j : JxlpIndexState) (k : BitstreamKind) (l : Left) (pending : Bool) (s : List ℕ) → MayEnd k l → Stays k (codeStep j k l pending s)
 stays-code j k l pending [] f = rw (code-wants j k l [] pending (omega arith)) (refl, f)
 stays-code j k l true (x ∷ s) f = rw (code-pending j k l (x ∷ s) (omega arith)) (refl, f)
 stays-code j k l false (x ∷ s) f = rw (code-shows j k l (x ∷ s) (omega arith)) (stays-part j k l (length (x ∷ s)) f)
 
 -- in a container every payload may end
-may-end : (l : Left) → Ends K.Container l
+may-end : (l : Left) → MayEnd K.Container l
 may-end ToEnd = tt
 may-end (Bytes m) = refl
 
@@ -240,17 +239,17 @@ before-kind (E.AuxData u a n) (f ∷ es) = go (auxAt u (a + n) f) refl
     go false j = rw j
 before-kind (E.AuxEnd t) (f ∷ es) = refl
 
-onward : (e : Event) (es fs : List Event) → kindTold es ≡ kindTold fs → kindTold (e ∷ es) ≡ kindTold (e ∷ fs)
-onward (E.Kind k) es fs h = refl
-onward E.NoMoreAux es fs h = h
-onward (E.Codestream a n) es fs h = h
-onward (E.AuxStart t b e) es fs h = h
-onward (E.AuxData t a n) es fs h = h
-onward (E.AuxEnd t) es fs h = h
+behind : (e : Event) (es fs : List Event) → kindTold es ≡ kindTold fs → kindTold (e ∷ es) ≡ kindTold (e ∷ fs)
+behind (E.Kind k) es fs h = refl
+behind E.NoMoreAux es fs h = h
+behind (E.Codestream a n) es fs h = h
+behind (E.AuxStart t b e) es fs h = h
+behind (E.AuxData t a n) es fs h = h
+behind (E.AuxEnd t) es fs h = h
 
 joined-kind : (es : List Event) → kindTold (joined es) ≡ kindTold es
 joined-kind [] = refl
-joined-kind (e ∷ es) = before-kind e (joined es) ∙ onward e (joined es) es (joined-kind es)
+joined-kind (e ∷ es) = before-kind e (joined es) ∙ behind e (joined es) es (joined-kind es)
 
 pub kind-is-told : KindIsTold
 kind-is-told xs =

@@ -6,16 +6,16 @@ use Prim.Native.Nat.{ℕ, zero, suc, _+_, _-_, _%_, _<_, _≤_, min}
 use native.Mathlib.Nat.{add-assoc, add-zero}
 use native.Mathlib.Omega.{arith}
 use lib.Dec.{ltb, leb, eqb}
-use lib.ListN.{length, drop, length-drop, drop-of-length-le}
+use lib.ListN.{length, drop, length-drop}
 use lib.Seq.{drop-drop, drop-length}
-use borrow.Author.Tests.{lt-ltb, le-ltb, le-leb, lt-leb, eq-eqb, ne-eqb, ltb-true, ltb-false, leb-true, leb-false, eqb-true, eqb-false}
-use Rattle.jxl_container.specs.Bytes.{if, or, be32}
+use borrow.Author.Tests.{ne-eqb, ltb-true, ltb-false, leb-true, leb-false, eqb-true, eqb-false}
+use Rattle.jxl_container.specs.Bytes.{if, be32}
 use Rattle.jxl_container.specs.Record.{number, at, under, less, toEnd, overIndex, impossibleIn, impossible, refusedIn, isRefused}
 use Rattle.jxl_container.specs.Header.{Header, short, bad, box, headerOf}
 use Rattle.jxl_container.specs.Signature.{signatureOf}
 use Rattle.jxl_container.specs.Types.{jxlc, jxlp, brob, reserved}
 use Rattle.jxl_container.specs.Step as T
-use Rattle.jxl_container.specs.Step.{Told, shows, wants, refuses, refuse, refuseBox, shifted, ahead, inCode, codePart, codeStep, auxPart, indexStep, innerStep, jxlcStep, jxlpNext, jxlpStep, brobStep, boxStep, headerStep, signatureStep, awaited, stateStep, stepOf}
+use Rattle.jxl_container.specs.Step.{Told, shows, wants, refuses, shifted, ahead, codePart, codeStep, auxPart, indexStep, innerStep, jxlcStep, jxlpNext, boxStep, headerStep, signatureStep, awaited, stateStep, stepOf}
 use Rattle.jxl_container.proofs.Step.{shifted-shifted, code-wants, code-pending, code-shows, index-wants, index-right, index-wrong, inner-wants, inner-reserved, inner-shows, box-jxlc, box-jxlp, box-brob, box-aux, step-empty, step-state}
 use Rattle.jxl_container.proofs.Laws.{refused-stays}
 use Rattle.jxl_container.proofs.Header.{header-fits, header-short}
@@ -31,10 +31,8 @@ use Rattle.jxl_container.specs.declared.JxlpIndexState.the-variants.{Initial, S
 use Rattle.jxl_container.specs.declared.DetectState.{DetectState}
 use Rattle.jxl_container.specs.declared.DetectState.the-variants as S
 use Rattle.jxl_container.specs.declared.ContainerParser.{ContainerParser}
-use Rattle.jxl_container.specs.declared.parse.Event.{Event}
-use Rattle.jxl_container.specs.declared.parse.Event.the-variants as E
-use Rattle.jxl_files.specs.Grammar.{Stop, want, refused, Listing, ends, then, Codestreams, none, single, upTo, whole, coded, code, closed, aux, row, indexed, inner, jxlcBox, jxlpBox, boxed, headed, boxes, nothing, bare, signed, file}
-use Rattle.jxl_files.specs.Feeding.{Seen, events, Takes, more, waits}
+use Rattle.jxl_files.specs.Grammar.{want, refused, Listing, ends, then, Codestreams, none, single, upTo, whole, coded, code, closed, aux, row, indexed, inner, jxlcBox, jxlpBox, boxed, boxes, bare, signed}
+use Rattle.jxl_files.specs.Feeding.{Seen, Takes, more, waits}
 use Rattle.jxl_files.specs.Feeding as Feeding
 use Rattle.jxl_files.specs.Theorems.{listing}
 use Rattle.jxl_files.proofs.Cut.{row-right, or-false}

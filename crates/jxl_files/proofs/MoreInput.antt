@@ -1,5 +1,5 @@
 -- What is whole in an input is the same in a longer one: words, signatures, headers.
-use mathlib.Core.Path.{_≡_, refl, sym, ap, _∙_}
+use mathlib.Core.Path.{_≡_, refl, sym, _∙_}
 use mathlib.Core.Bool.{Bool, true, false}
 use mathlib.Core.Logic.{_⊎_, inl, inr}
 use mathlib.Core.List.{List, [], _∷_, _++_}
@@ -10,10 +10,11 @@ use lib.ListN.{length, length-append, List·getD-append}
 use borrow.Author.Tests.{le-ltb, ltb-true, ltb-false, eqb-true, eqb-false, eq-eqb, ne-eqb}
 use Rattle.jxl_container.specs.Bytes.{and, be32, be64, starts}
 use Rattle.jxl_container.specs.Signature.{signatureOf, codestreamSig, containerSig}
-use Rattle.jxl_container.specs.Header.{Header, short, bad, box, headerOf, extended}
+use Rattle.jxl_container.specs.Header.{short, headerOf, extended}
 use Rattle.jxl_container.proofs.Header.{header-short, header-extended, extended-short}
 use Rattle.jxl_container.proofs.Signature.{is-bare, is-container, is-short-bare, is-short-container, is-neither}
 use Rattle.jxl_container.specs.declared.consts.Signature.the-variants.{TooShort}
+use Rattle.jxl_files.proofs.Never.{never}
 
 module _ (a b : List ℕ) where
   longer : length (a ++ b) ≡ length a + length b
@@ -55,7 +56,7 @@ module _ (a b : List ℕ) where
 
 pub starts-more : (p a b : List ℕ) → starts p a ≡ true → starts p (a ++ b) ≡ true
 starts-more [] a b e = refl
-starts-more (x ∷ p) [] b e = absurd (let z : _≡_ {A = ℕ} 0 1 = cc in omega arith)
+starts-more (x ∷ p) [] b e = never cc
 starts-more (x ∷ p) (y ∷ a) b e = go (eqb x y) e (starts-more p a b)
   where
     go : (t : Bool) → and t (starts p a) ≡ true → (starts p a ≡ true → starts p (a ++ b) ≡ true) → and t (starts p (a ++ b)) ≡ true
@@ -64,8 +65,8 @@ starts-more (x ∷ p) (y ∷ a) b e = go (eqb x y) e (starts-more p a b)
 
 -- two lists that differ at a place go on to differ
 pub starts-differ : (p a b : List ℕ) → starts p a ≡ false → starts a p ≡ false → (starts p (a ++ b) ≡ false) × (starts (a ++ b) p ≡ false)
-starts-differ [] a b e f = absurd (let z : _≡_ {A = ℕ} 0 1 = cc in omega arith)
-starts-differ (x ∷ p) [] b e f = absurd (let z : _≡_ {A = ℕ} 0 1 = cc in omega arith)
+starts-differ [] a b e f = never cc
+starts-differ (x ∷ p) [] b e f = never cc
 starts-differ (x ∷ p) (y ∷ a) b e f = go (eqb x y) refl (starts-differ p a b)
   where
     go : (t : Bool) → eqb x y ≡ t → (starts p a ≡ false → starts a p ≡ false → (starts p (a ++ b) ≡ false) × (starts (a ++ b) p ≡ false))
@@ -83,7 +84,7 @@ not-bare (y ∷ s) e = go (eqb 0 y) refl
   where
     go : (t : Bool) → eqb 0 y ≡ t → starts codestreamSig (y ∷ s) ≡ false
     go true q = rw (← eqb-true 0 y q)
-    go false q = absurd (let z : _≡_ {A = ℕ} 0 1 = cc in omega arith)
+    go false q = never cc
 
 -- a signature that is told is the same in a longer input
 pub signature-more : (a b : List ℕ) → (signatureOf a ≡ TooShort) ⊎ (signatureOf (a ++ b) ≡ signatureOf a)

@@ -1,14 +1,13 @@
 -- Each payload shown is, byte for byte, the file at its place; and so the joiner lists the file.
 use mathlib.Core.Path.{_≡_, refl, sym, ap, _∙_, subst}
-use mathlib.Core.List.{List, [], _∷_, _++_, append-nil, append-assoc}
+use mathlib.Core.List.{List, [], _∷_, _++_, append-assoc}
 use Prim.Native.Nat.{ℕ, _+_, _-_, _^_, _<_, _≤_}
-use native.Mathlib.Nat.{add-assoc}
 use native.Mathlib.Omega.{arith}
-use lib.ListN.{length, drop, length-append, length-drop, length-take, take-append-drop}
+use lib.ListN.{length, drop, length-append, length-drop, take-append-drop}
 use lib.ListN.{take as prefix}
 use lib.Seq.{drop-append-le, drop-append-add, take-append-le, length-take-le}
 use Rattle.jxl_container.specs.Record.{fresh}
-use Rattle.jxl_container.specs.Step.{shows, shifted, stepOf, part, payloadOf}
+use Rattle.jxl_container.specs.Step.{part}
 use Rattle.jxl_container.specs.Laws.{Inside}
 use Rattle.jxl_container.proofs.Laws.{every-step}
 use Rattle.jxl_container.proofs.Step.{part-in}

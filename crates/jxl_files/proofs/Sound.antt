@@ -1,11 +1,10 @@
 -- What an event costs, and that two events of one feed never lie end to end. One law for a step, carried through its rules:
 -- an event pays 3 out of the bytes it consumes and the weight that its state gives up.
-use mathlib.Core.Path.{_≡_, refl, sym, ap, _∙_, subst}
+use mathlib.Core.Path.{_≡_, refl, sym, ap, _∙_}
 use mathlib.Core.Bool.{Bool, true, false}
 use mathlib.Core.Logic.{_⊎_, inl, inr}
 use mathlib.Core.List.{List, [], _∷_}
-use Prim.Native.Nat.{ℕ, zero, suc, _+_, _-_, _*_, _%_, _<_, _≤_, min}
-use native.Mathlib.Nat.{add-assoc}
+use Prim.Native.Nat.{ℕ, _+_, _-_, _%_, _<_, _≤_, min}
 use native.Mathlib.Omega.{arith}
 use lib.Dec.{ltb, leb, eqb}
 use lib.ListN.{length, drop, length-drop, drop-of-length-le}
@@ -15,11 +14,10 @@ use Rattle.jxl_container.specs.Record.{at, under, less, toEnd, impossible, isRe
 use Rattle.jxl_container.specs.Header.{Header, short, bad, box, headerOf}
 use Rattle.jxl_container.specs.Signature.{signatureOf}
 use Rattle.jxl_container.specs.Types.{jxlc, jxlp, brob, reserved}
-use Rattle.jxl_container.specs.Step.{Told, shows, wants, refuses, refuse, shifted, ahead, inCode, codePart, codeStep, auxPart, row, indexStep, innerStep, jxlcStep, jxlpNext, jxlpStep, brobStep, boxStep, headerStep, signatureStep, awaited, stateStep, stepOf}
-use Rattle.jxl_container.proofs.Step.{code-wants, code-pending, code-shows, index-wants, index-right, index-wrong, inner-wants, inner-reserved, inner-shows, box-jxlc, box-jxlp, box-brob, box-aux, step-empty, step-empty-refused, step-state, step-impossible}
+use Rattle.jxl_container.specs.Step.{Told, shows, wants, refuses, shifted, ahead, codePart, codeStep, auxPart, row, indexStep, innerStep, jxlcStep, jxlpNext, boxStep, headerStep, signatureStep, awaited, stateStep, stepOf}
+use Rattle.jxl_container.proofs.Step.{code-wants, code-pending, code-shows, index-wants, index-right, index-wrong, inner-wants, inner-reserved, inner-shows, box-jxlc, box-jxlp, box-brob, box-aux, step-empty, step-state, step-impossible}
 use Rattle.jxl_container.proofs.Laws.{every-step, stays}
 use Rattle.jxl_container.proofs.Header.{header-fits}
-use Rattle.jxl_container.proofs.Signature.{signature-there}
 use Rattle.jxl_container.specs.declared.consts.Signature.{Signature}
 use Rattle.jxl_container.specs.declared.consts.Signature.the-variants as G
 use Rattle.jxl_container.specs.declared.BitstreamKind.{BitstreamKind}

@@ -1,26 +1,21 @@
 -- Two stretches fed one after the other, the second behind the bytes left unread of the first, equal the two fed joined.
 use mathlib.Core.Path.{_≡_, refl, sym, ap, ap₂, _∙_, subst}
-use mathlib.Core.Bool.{Bool, true, false}
-use mathlib.Core.Logic.{_⊎_, inl, inr}
 use mathlib.Core.List.{List, [], _∷_, _++_}
-use Prim.Native.Nat.{ℕ, zero, suc, _+_, _-_, _<_, _≤_}
+use Prim.Native.Nat.{ℕ, _+_, _≤_}
 use native.Mathlib.Nat.{add-assoc, add-zero}
 use native.Mathlib.Omega.{arith}
-use lib.Dec.{eqb}
 use lib.ListN.{length, drop, drop-of-length-le}
 use lib.Seq.{drop-drop, drop-append-le, drop-append-add}
 use borrow.Author.Tests.{eq-eqb}
-use Rattle.jxl_container.specs.Record.{isRefused}
-use Rattle.jxl_container.specs.Step.{Told, shows, wants, refuses, shifted, ahead, stepOf}
+use Rattle.jxl_container.specs.Step.{shows, wants, refuses, shifted, ahead, stepOf}
 use Rattle.jxl_container.specs.Laws.{Repeats}
 use Rattle.jxl_container.proofs.Laws.{every-step}
 use Rattle.jxl_container.proofs.Step.{shifted-shifted, step-empty}
 use Rattle.jxl_container.specs.declared.ContainerParser.{ContainerParser}
 use Rattle.jxl_container.specs.declared.parse.Event.{Event}
-use Rattle.jxl_container.specs.declared.parse.Event.the-variants as E
-use Rattle.jxl_files.specs.Grammar.{Stop, want, refused}
-use Rattle.jxl_files.specs.Joined.{before, joined}
-use Rattle.jxl_files.specs.Feeding.{Shown, Seen, events, eventsIn, stops, followed, placed, Takes, more, waits, ends}
+use Rattle.jxl_files.specs.Grammar.{want, refused}
+use Rattle.jxl_files.specs.Joined.{before}
+use Rattle.jxl_files.specs.Feeding.{Seen, events, eventsIn, stops, followed, placed, Takes, more, waits, ends}
 use Rattle.jxl_files.proofs.Cut.{Grown, code, aux, Cut, keeps, grows, remains, cut-step}
 use Rattle.jxl_files.proofs.Cut as Cut
 use Rattle.jxl_files.proofs.Sound.{apart, consumes, shows-open}

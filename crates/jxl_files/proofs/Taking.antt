@@ -1,21 +1,15 @@
 -- Taking events from an input, as a relation: it always ends, and there is one way it goes.
-use mathlib.Core.Path.{_≡_, refl, sym, ap, _∙_, subst}
-use mathlib.Core.Bool.{Bool, true, false}
+use mathlib.Core.Path.{_≡_, refl, ap}
 use mathlib.Core.Logic.{_⊎_, inl, inr}
-use mathlib.Core.List.{List, [], _∷_, _++_}
-use Prim.Native.Nat.{ℕ, zero, suc, _+_, _-_, _*_, _/_, _<_, _≤_}
-use native.Mathlib.Nat.{add-assoc, add-zero}
+use mathlib.Core.List.{List, [], _∷_}
+use Prim.Native.Nat.{ℕ, zero, suc, _+_, _*_, _<_, _≤_}
 use native.Mathlib.Omega.{arith}
-use lib.ListN.{length, drop, length-drop, length-append, drop-of-length-le}
-use lib.Seq.{drop-drop}
-use Rattle.jxl_container.specs.Record.{isRefused}
-use Rattle.jxl_container.specs.Step.{Told, shows, wants, refuses, shifted, stepOf}
-use Rattle.jxl_container.proofs.Laws.{every-step}
+use lib.ListN.{length, drop, length-drop, drop-of-length-le}
+use Rattle.jxl_container.specs.Step.{Told, shows, wants, refuses, stepOf}
 use Rattle.jxl_container.proofs.Step.{none}
 use Rattle.jxl_container.specs.declared.ContainerParser.{ContainerParser}
 use Rattle.jxl_container.specs.declared.parse.Event.{Event}
-use Rattle.jxl_files.specs.Grammar.{Stop, want, refused}
-use Rattle.jxl_files.specs.Feeding.{Shown, Seen, events, eventsIn, stops, followed, placed, onward, taking, take, Takes, more, waits, ends}
+use Rattle.jxl_files.specs.Feeding.{Seen, followed, placed, onward, taking, take, Takes, more, waits, ends}
 use Rattle.jxl_files.proofs.Sound.{none-of-none, consumes, costs, weight, weight-most}
 
 -- an event for each 3 of the bytes and the weight

@@ -1,25 +1,23 @@
 -- Every file, every cut: the theorems, each under the name that docs/PROMISES.md gives it.
-use mathlib.Core.Path.{_≡_, refl, sym, ap, ap₂, _∙_, subst}
-use mathlib.Core.Bool.{Bool, true, false}
+use mathlib.Core.Path.{_≡_, refl, sym, ap, _∙_, subst}
 use mathlib.Core.List.{List, [], _∷_, _++_, append-nil, append-assoc}
-use Prim.Native.Nat.{ℕ, zero, suc, _+_, _-_, _*_, _/_, _<_, _≤_}
-use native.Mathlib.Nat.{add-assoc, add-zero}
+use Prim.Native.Nat.{ℕ, zero, suc, _+_, _-_, _≤_}
+use native.Mathlib.Nat.{add-zero}
 use native.Mathlib.Omega.{arith}
 use lib.ListN.{length, drop, length-append, length-drop}
 use lib.Seq.{drop-drop}
-use Rattle.jxl_container.specs.Record.{fresh, impossible, isRefused}
+use Rattle.jxl_container.specs.Record.{fresh}
 use Rattle.jxl_container.specs.Step.{Told, shows, wants, refuses, shifted, ahead, stepOf}
 use Rattle.jxl_container.proofs.Laws.{every-step}
 use Rattle.jxl_container.proofs.Step.{step-empty}
 use Rattle.jxl_container.specs.declared.ContainerParser.{ContainerParser}
-use Rattle.jxl_container.specs.declared.parse.Event.{Event}
 use Rattle.jxl_files.specs.Grammar.{Stop, want, refused, Listing, file}
 use Rattle.jxl_files.specs.Joined.{before, joined}
-use Rattle.jxl_files.specs.Feeding.{Shown, Seen, events, eventsIn, stops, followed, placed, taking, take, fed, feeding, bytesOf, Takes, more, waits, ends}
+use Rattle.jxl_files.specs.Feeding.{Shown, Seen, events, eventsIn, stops, followed, take, fed, feeding, bytesOf, Takes, more, waits, ends}
 use Rattle.jxl_files.specs.Theorems.{listing, Agrees, EveryFile, NothingToJoin, EveryCut, EveryCutOfAFile, MostUnread, MostUnreadOfPackets, MostEvents, AtMostMore, AlwaysEnds, EndsByItself, OneWay}
 use Rattle.jxl_files.proofs.Cut.{Cut, cut-step}
 use Rattle.jxl_files.proofs.Cut as Cut
-use Rattle.jxl_files.proofs.Sound.{weight, weight-most, consumes}
+use Rattle.jxl_files.proofs.Sound.{weight-most, consumes}
 use Rattle.jxl_files.proofs.Taking.{takes, take-is, only, priced}
 use Rattle.jxl_files.proofs.Stretches.{onto, Joins, stretch, first-apart}
 use Rattle.jxl_files.proofs.Listed.{listed}

@@ -8,7 +8,7 @@ use mathlib.Core.List.{List, [], _∷_}
 use Prim.Native.Nat.{ℕ, zero, suc, _+_, _%_}
 use lib.Dec.{ltb, leb, eqb}
 use lib.ListN.{length, drop}
-use Rattle.jxl_container.specs.Bytes.{be32, empty}
+use Rattle.jxl_container.specs.Bytes.{be32}
 use Rattle.jxl_container.specs.Signature.{signatureOf}
 use Rattle.jxl_container.specs.Record.{number, under, less, toEnd}
 use Rattle.jxl_container.specs.Types.{jxlc, jxlp, brob, reserved}

@@ -1,5 +1,5 @@
 -- A joiner holds the newest event back, until the next one shows that it is whole; and how many events a queue must hold.
-use mathlib.Core.Bool.{Bool, true, false}
+use mathlib.Core.Bool.{Bool}
 use mathlib.Core.List.{List, [], _∷_, _++_}
 use Prim.Native.Nat.{ℕ, _+_, _-_, _/_, _^_, _<_, min}
 use lib.Dec.{ltb}
@@ -8,7 +8,6 @@ use Rattle.jxl_container.specs.declared.parse.Event.{Event}
 use Rattle.jxl_files.specs.Joined.{joins, lengthOf, endOf, longer}
 use Rattle.jxl_files.specs.declared.Held.{Held}
 use Rattle.jxl_files.specs.declared.Held.the-variants.{Nothing, Waiting}
-use Rattle.jxl_files.specs.declared.Joiner.{Joiner}
 use Rattle.jxl_files.specs.declared.Added.{Added}
 
 -- what is handed back, and what is held from then on

@@ -1,6 +1,6 @@
 -- Every file, every cut: what is proved of feeding, each statement a type that proofs/ has a proof of under the same name in small letters.
 use mathlib.Core.Path.{_≡_}
-use mathlib.Core.Bool.{Bool, true, false}
+use mathlib.Core.Bool.{false}
 use mathlib.Core.List.{List, [], _∷_}
 use Prim.Native.Nat.{ℕ, _+_, _/_, _<_, _≤_, _^_}
 use lib.ListN.{length}
@@ -12,7 +12,7 @@ use Rattle.jxl_container.specs.declared.BitstreamKind.the-variants as K
 use Rattle.jxl_container.specs.declared.ContainerParser.{ContainerParser}
 use Rattle.jxl_container.specs.declared.parse.Event.{Event}
 use Rattle.jxl_container.specs.declared.parse.Event.the-variants as E
-use Rattle.jxl_files.specs.Grammar.{Stop, want, Listing, file}
+use Rattle.jxl_files.specs.Grammar.{want, Listing, file}
 use Rattle.jxl_files.specs.Joined.{joined}
 use Rattle.jxl_files.specs.Joiner.{run, AllCounted}
 use Rattle.jxl_files.specs.Feeding.{Shown, Seen, events, taking, take, feeding, bytesOf, Takes}
@@ -85,10 +85,11 @@ AtMostMore =
 abbrev pub AlwaysEnds : Type 0
 AlwaysEnds = (p : ContainerParser) (at : ℕ) (s : List ℕ) (turns : ℕ) → length s / 3 + 4 ≤ turns → taking turns p at s ≡ take p at s
 
--- and it stops because a step wants more or refuses, never because its turns ran out; what it comes to is the only thing
+-- and `take` stops because a step wants more or refuses, never because its turns ran out
 abbrev pub EndsByItself : Type 0
 EndsByItself = (p : ContainerParser) (at : ℕ) (s : List ℕ) → (u : List ℕ) × Takes p at s (take p at s) u
 
+-- and so there is one thing that taking comes to
 abbrev pub OneWay : Type 0
 OneWay = (p : ContainerParser) (at : ℕ) (s : List ℕ) (r : Seen) (u : List ℕ) → Takes p at s r u → take p at s ≡ r
 
