@@ -1,3 +1,4 @@
 pub mod Text
 pub mod Paste
 pub mod Turning
+pub mod Feeds
