@@ -2,3 +2,4 @@ pub mod Text
 pub mod Paste
 pub mod Turning
 pub mod Feeds
+pub mod Full

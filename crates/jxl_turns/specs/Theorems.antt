@@ -1,7 +1,8 @@
 -- What is proved of turns, each statement a type that proofs/ has a proof of under the same name in small letters.
 use mathlib.Core.Path.{_≡_}
 use mathlib.Core.List.{List, [], _∷_, _++_}
-use Prim.Native.Nat.{ℕ}
+use Prim.Native.Nat.{ℕ, _+_, _<_, _≤_}
+use lib.ListN.{length}
 use Rattle.jxl_container.specs.Step.{shifted}
 use Rattle.jxl_container.specs.declared.ContainerParser.{ContainerParser}
 use Rattle.jxl_container.specs.declared.parse.Event.{Event}
@@ -9,6 +10,9 @@ use Rattle.jxl_files.specs.Feeding.{Seen, events}
 use Rattle.jxl_files.specs.Feeding as Feeding
 use Rattle.jxl_files.specs.Joiner.{handed, run}
 use Rattle.jxl_files.specs.declared.Held.{Held}
+use Rattle.jxl_files.specs.declared.Held.the-variants.{Nothing, Waiting}
+use Rattle.jxl_listing.specs.Lines.{InRange}
+use Rattle.jxl_listing.specs.declared.Line.the-variants as L
 use Rattle.jxl_listing.specs.declared.Stop.{Stop}
 use Rattle.jxl_turns.specs.Listed.{stopOf, texts}
 use Rattle.jxl_turns.specs.Turned.{Turned, turnFrom, turnOf}
@@ -38,3 +42,20 @@ abbrev pub WholeTurnFeeds : Type 0
 WholeTurnFeeds =
     (base : ℕ) (s : List ℕ) (room : ℕ) (p : ContainerParser) (h : Held) (w : Stop) → turnOf base s room p h .end ≡ End.Stopped w
     → Feeds base h (Feeding.take p 0 s) w (turnOf base s room p h)
+
+-- a turn ends with no room only where the line of the event held does not fit behind the lines put
+abbrev pub FullMeansFull : Type 0
+FullMeansFull =
+    (base : ℕ) (s : List ℕ) (room : ℕ) (p : ContainerParser) (h : Held) → turnOf base s room p h .end ≡ End.Full
+    → room < length (turnOf base s room p h .lines) + length (texts (handed (turnOf base s room p h .held)))
+
+-- the event held, if any, has numbers that the code can hold
+abbrev pub HeldInRange : Held → Type 0
+HeldInRange Nothing = Unit {0}
+HeldInRange (Waiting e) = InRange (L.Shown e)
+
+-- and so with room for the longest line it puts one at least: turn after turn comes to an end
+abbrev pub TurnAdvances : Type 0
+TurnAdvances =
+    (base : ℕ) (s : List ℕ) (room : ℕ) (p : ContainerParser) (h : Held) → 56 ≤ room → HeldInRange (turnOf base s room p h .held) → turnOf base s room p h .end ≡ End.Full
+    → 0 < length (turnOf base s room p h .lines)
