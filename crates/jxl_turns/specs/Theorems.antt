@@ -1,20 +1,19 @@
 -- What is proved of turns, each statement a type that proofs/ has a proof of under the same name in small letters.
 use mathlib.Core.Path.{_≡_}
 use mathlib.Core.List.{List, [], _∷_, _++_}
-use Prim.Native.Nat.{ℕ, _+_, _<_, _≤_}
+use Prim.Native.Nat.{ℕ, _+_, _^_, _<_, _≤_}
 use lib.ListN.{length}
 use Rattle.jxl_container.specs.Step.{shifted}
 use Rattle.jxl_container.specs.declared.ContainerParser.{ContainerParser}
 use Rattle.jxl_container.specs.declared.parse.Event.{Event}
 use Rattle.jxl_files.specs.Feeding.{Seen, events}
 use Rattle.jxl_files.specs.Feeding as Feeding
+use Rattle.jxl_files.specs.Joined.{lengthOf}
 use Rattle.jxl_files.specs.Joiner.{handed, run}
 use Rattle.jxl_files.specs.declared.Held.{Held}
 use Rattle.jxl_files.specs.declared.Held.the-variants.{Nothing, Waiting}
-use Rattle.jxl_listing.specs.Lines.{InRange}
-use Rattle.jxl_listing.specs.declared.Line.the-variants as L
 use Rattle.jxl_listing.specs.declared.Stop.{Stop}
-use Rattle.jxl_turns.specs.Listed.{stopOf, texts}
+use Rattle.jxl_turns.specs.Listed.{stopOf, texts, placeOf}
 use Rattle.jxl_turns.specs.Turned.{Turned, turnFrom, turnOf}
 use Rattle.jxl_turns.specs.declared.End.the-variants as End
 
@@ -49,13 +48,17 @@ FullMeansFull =
     (base : ℕ) (s : List ℕ) (room : ℕ) (p : ContainerParser) (h : Held) → turnOf base s room p h .end ≡ End.Full
     → room < length (turnOf base s room p h .lines) + length (texts (handed (turnOf base s room p h .held)))
 
--- the event held, if any, has numbers that the code can hold
-abbrev pub HeldInRange : Held → Type 0
-HeldInRange Nothing = Unit {0}
-HeldInRange (Waiting e) = InRange (L.Shown e)
+-- the place and the length of the event held, if any, fit 64 bits; so they do of each that the code holds
+abbrev pub HeldFits : Held → Type 0
+HeldFits Nothing = Unit {0}
+HeldFits (Waiting e) = (placeOf e < 2 ^ 64) × (lengthOf e < 2 ^ 64)
 
--- and so with room for the longest line it puts one at least: turn after turn comes to an end
+-- a turn keeps that
+abbrev pub TurnKeepsFit : Type 0
+TurnKeepsFit = (base : ℕ) (s : List ℕ) (room : ℕ) (p : ContainerParser) (h : Held) → HeldFits h → HeldFits (turnOf base s room p h .held)
+
+-- and so with room for the longest line a turn that ends with no room has put a line
 abbrev pub TurnAdvances : Type 0
 TurnAdvances =
-    (base : ℕ) (s : List ℕ) (room : ℕ) (p : ContainerParser) (h : Held) → 56 ≤ room → HeldInRange (turnOf base s room p h .held) → turnOf base s room p h .end ≡ End.Full
+    (base : ℕ) (s : List ℕ) (room : ℕ) (p : ContainerParser) (h : Held) → HeldFits h → 56 ≤ room → turnOf base s room p h .end ≡ End.Full
     → 0 < length (turnOf base s room p h .lines)
