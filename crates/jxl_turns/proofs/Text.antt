@@ -67,7 +67,7 @@ abbrev pub count : ContainerParser → ℕ → List ℕ → ℕ
 count p at f = length (Feeding.take p at (drop at f) .shown)
 
 module _ (p : ContainerParser) (f : List ℕ) (at : ℕ) where
-  taken-shown : {e : Event} {q : ContainerParser} {c : ℕ} → stepOf p (drop at f) ≡ shows e q c
+  pub taken-shown : {e : Event} {q : ContainerParser} {c : ℕ} → stepOf p (drop at f) ≡ shows e q c
       → Feeding.take p at (drop at f) ≡ followed (placed at (drop at f) e ∷ []) (Feeding.take q (at + c) (drop (at + c) f))
   taken-shown {e} {q} {c} s =
       take-is (more s (takes q (at + c) (drop c (drop at f)) .1))

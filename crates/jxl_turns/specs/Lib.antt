@@ -1,2 +1,3 @@
 pub mod Listed
 pub mod Turned
+pub mod Theorems
