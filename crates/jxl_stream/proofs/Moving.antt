@@ -39,3 +39,8 @@ all-moved d b from upto end i m e p =
 
 pub kept-fits : (d : List ℕ) (from upto : ℕ) → length (kept from upto d) ≤ length d
 kept-fits d from upto = omega (arith, length-take (upto - from) (drop from d), length-drop from d)
+
+-- two answers that meet the promise of `keep`, with the buffer then, are equal
+pub one-keep : (d e e′ : List ℕ) (from upto r r′ : ℕ) → (r ≡ length (kept from upto d)) × (e ≡ pasted d 0 (kept from upto d))
+    → (r′ ≡ length (kept from upto d)) × (e′ ≡ pasted d 0 (kept from upto d)) → (r ≡ r′) × (e ≡ e′)
+one-keep d e e′ from upto r r′ (n, p) (n′, p′) = (n ∙ sym n′, p ∙ sym p′)

@@ -9,9 +9,6 @@ use denote.Ref.{now}
 use Rattle.jxl_stream.proofs.Moving.{ahead, front-more, all-moved}
 use Rattle.jxl_stream.proofs.keep.Statement.{statement}
 use Rattle.jxl_stream.proofs.keep.Tie as tie
-use Rattle.jxl_stream.proofs.keep.Reads as reads
-use Rattle.jxl_stream.proofs.keep.Lts as lts
-use Rattle.jxl_stream.proofs.least.Reads as least-reads
 
 abbrev Inv-loop : tie.InvT-loop
 Inv-loop buf₀ from upto end i₀ at₀ buf i at =
@@ -20,35 +17,27 @@ Inv-loop buf₀ from upto end i₀ at₀ buf i at =
 abbrev μ-loop : tie.MeasureT-loop
 μ-loop buf₀ from upto end i₀ at₀ buf i at = end - at
 
--- src/lib.rt:43:9
 least-requires : tie.Need-least-requires Inv-loop μ-loop
 least-requires c κs = tt
 
--- src/lib.rt:46:5
 loop-holds : tie.Need-loop-holds Inv-loop μ-loop
 loop-holds c = (omega arith, omega arith, c .least .ensures, paste-zero (now (c .before .before .args .buf)) 0 (drop (c .before .before .args .from) (now (c .before .before .args .buf))), refl)
 
--- src/lib.rt:47:18
 slice-read-buf : tie.Need-slice-read-buf Inv-loop μ-loop
 slice-read-buf c = omega arith
 
--- src/lib.rt:47:9
 slice-write-buf : tie.Need-slice-write-buf Inv-loop μ-loop
 slice-write-buf c = omega arith
 
--- src/lib.rt:48:9
 add-i : tie.Need-add-i Inv-loop μ-loop
 add-i c = omega arith
 
--- src/lib.rt:49:9
 add-at : tie.Need-add-at Inv-loop μ-loop
 add-at c = omega arith
 
--- src/lib.rt:46:5
 loop-less : tie.Need-loop-less Inv-loop μ-loop
 loop-less c = omega arith
 
--- src/lib.rt:46:5
 loop-again : tie.Need-loop-again Inv-loop μ-loop
 loop-again c =
     let a = c .before .before .before .before .before .args in
@@ -63,11 +52,9 @@ loop-again c =
       simp length-set (l .inv .4),
     )
 
--- src/lib.rt:40:1
 same-length : tie.Need-same-length Inv-loop μ-loop
 same-length c = c .before .loop .inv .4
 
--- src/lib.rt:40:1
 returns : tie.Need-returns Inv-loop μ-loop
 returns c =
     let a = c .before .before .before .before .args in

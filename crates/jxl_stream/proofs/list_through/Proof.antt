@@ -1,15 +1,8 @@
 use mathlib.Core.Path.{_≡_, refl, _∙_}
 use native.Mathlib.Omega.{arith}
 use lib.ListN.{length}
-use borrow.Author.Needs.{needs}
 use Rattle.jxl_stream.proofs.list_through.Statement.{statement}
 use Rattle.jxl_stream.proofs.list_through.Tie as tie
-use Rattle.jxl_stream.proofs.list_through.Reads as reads
-use Rattle.jxl_stream.proofs.list_through.Lts as lts
-use Rattle.jxl_container.proofs.ContainerParser.new.Reads as ContainerParser-new-reads
-use Rattle.jxl_files.proofs.Joiner.new.Reads as Joiner-new-reads
-use Rattle.jxl_stream.proofs.go_on.Reads as go-on-reads
-use Rattle.jxl_stream.proofs.is_over.Reads as is-over-reads
 
 abbrev Inv-loop : tie.InvT-loop
 Inv-loop fd buf₀ out₀ l₀ turns₀ buf out l turns = (length buf ≡ length buf₀) × (length out ≡ length out₀)
@@ -17,62 +10,48 @@ Inv-loop fd buf₀ out₀ l₀ turns₀ buf out l turns = (length buf ≡ length
 abbrev μ-loop : tie.MeasureT-loop
 μ-loop fd buf₀ out₀ l₀ turns₀ buf out l turns = turns
 
--- src/lib.rt:198:17
 new-requires : tie.Need-new-requires Inv-loop μ-loop
 new-requires c κs = tt
 
--- src/lib.rt:199:17
 new-requires-2 : tie.Need-new-requires-2 Inv-loop μ-loop
 new-requires-2 c κs = tt
 
--- src/lib.rt:206:5
 loop-holds : tie.Need-loop-holds Inv-loop μ-loop
 loop-holds c = (refl, refl)
 
--- src/lib.rt:206:25
 is-over-requires : tie.Need-is-over-requires Inv-loop μ-loop
 is-over-requires c κs = tt
 
--- src/lib.rt:207:9
 go-on-requires : tie.Need-go-on-requires Inv-loop μ-loop
 go-on-requires c κs = tt
 
--- src/lib.rt:208:9
 sub-turns : tie.Need-sub-turns Inv-loop μ-loop
 sub-turns c = omega arith
 
--- src/lib.rt:206:5
 loop-less : tie.Need-loop-less Inv-loop μ-loop
 loop-less c = omega arith
 
--- src/lib.rt:206:5
 loop-again : tie.Need-loop-again Inv-loop μ-loop
 loop-again c =
     let kept = c .before .before .before .before .go-on .kept in
     let l = c .before .before .before .before .before .before .before .before .before .before .loop in
     (kept .1 .1 .0 ∙ l .inv .0, kept .1 .1 .1 .0 ∙ l .inv .1)
 
--- src/lib.rt:196:1
 same-length : tie.Need-same-length Inv-loop μ-loop
 same-length c = c .before .before .before .loop .inv .0
 
--- src/lib.rt:196:1
 same-length-2 : tie.Need-same-length-2 Inv-loop μ-loop
 same-length-2 c = c .before .before .before .loop .inv .1
 
--- src/lib.rt:196:1
 returns : tie.Need-returns Inv-loop μ-loop
 returns c = tt
 
--- src/lib.rt:196:1
 same-length-3 : tie.Need-same-length-3 Inv-loop μ-loop
 same-length-3 c = c .before .loop .inv .0
 
--- src/lib.rt:196:1
 same-length-4 : tie.Need-same-length-4 Inv-loop μ-loop
 same-length-4 c = c .before .loop .inv .1
 
--- src/lib.rt:196:1
 returns-2 : tie.Need-returns-2 Inv-loop μ-loop
 returns-2 c = tt
 
