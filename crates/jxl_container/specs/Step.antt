@@ -4,6 +4,8 @@ use mathlib.Core.List.{List, []}
 use Prim.Native.Nat.{ℕ, _+_, _-_, _%_, _/_, min}
 use lib.Dec.{ltb, leb, eqb}
 use lib.ListN.{length, take, drop}
+use Rattle.jxl_cuts.specs.Machine.{Told as Answer}
+pub use Rattle.jxl_cuts.specs.Machine.{shows, wants, refuses}
 use Rattle.jxl_container.specs.Bytes.{if, and, or, be32, empty}
 use Rattle.jxl_container.specs.Signature.{signatureOf}
 use Rattle.jxl_container.specs.Record.{number, at, kindOf, under, less, toEnd, impossible, isRefused}
@@ -28,10 +30,8 @@ use Rattle.jxl_container.specs.declared.parse.Step.{Step}
 use Rattle.jxl_container.specs.declared.parse.Step.the-variants as A
 
 -- one step gives one event, WANT or a refusal by its number, with the next parser and the bytes consumed
-pub data Told : Type 0 where
-  shows : Event → ContainerParser → ℕ → Told
-  wants : ContainerParser → ℕ → Told
-  refuses : ℕ → ContainerParser → ℕ → Told
+abbrev pub Told : Type 0
+Told = Answer ContainerParser Event ℕ
 
 -- what an answer of the code says in these terms
 abbrev pub told : Step → Told

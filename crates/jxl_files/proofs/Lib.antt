@@ -2,8 +2,8 @@ pub mod Never
 pub mod MoreInput
 pub mod Cut
 pub mod Sound
+pub mod Lawful
 pub mod Taking
-pub mod Stretches
 pub mod Listed
 pub mod Theorems
 pub mod Payloads

@@ -8,6 +8,8 @@ use mathlib.Core.List.{List, [], _∷_}
 use Prim.Native.Nat.{ℕ, zero, suc, _+_, _%_}
 use lib.Dec.{ltb, leb, eqb}
 use lib.ListN.{length, drop}
+use Rattle.jxl_cuts.specs.Feeding.{Stop as Stops}
+pub use Rattle.jxl_cuts.specs.Feeding.{want, refused}
 use Rattle.jxl_container.specs.Bytes.{be32}
 use Rattle.jxl_container.specs.Signature.{signatureOf}
 use Rattle.jxl_container.specs.Record.{number, under, less, toEnd}
@@ -23,9 +25,8 @@ use Rattle.jxl_container.specs.declared.parse.Event.{Event}
 use Rattle.jxl_container.specs.declared.parse.Event.the-variants as E
 
 -- how a listing stops: more bytes are wanted, or a refusal by its number
-pub data Stop : Type 0 where
-  want : Stop
-  refused : ℕ → Stop
+abbrev pub Stop : Type 0
+Stop = Stops ℕ
 
 -- events with places in the file, the bytes consumed, and the stop
 pub record Listing : Type 0 where

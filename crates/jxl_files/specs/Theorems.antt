@@ -5,13 +5,15 @@ use mathlib.Core.List.{List, [], _∷_}
 use Prim.Native.Nat.{ℕ, _+_, _/_, _<_, _≤_, _^_}
 use lib.ListN.{length}
 use Rattle.jxl_container.specs.Record.{fresh, isRefused, kindOf}
-use Rattle.jxl_container.specs.Step.{refuses, stepOf, payloadOf}
-use Rattle.jxl_container.specs.Laws.{Inside}
+use Rattle.jxl_container.specs.Step.{refuses, stepOf}
 use Rattle.jxl_container.specs.declared.BitstreamKind.{BitstreamKind}
 use Rattle.jxl_container.specs.declared.BitstreamKind.the-variants as K
 use Rattle.jxl_container.specs.declared.ContainerParser.{ContainerParser}
 use Rattle.jxl_container.specs.declared.parse.Event.{Event}
 use Rattle.jxl_container.specs.declared.parse.Event.the-variants as E
+use Rattle.jxl_cuts.specs.Theorems as Any
+pub use Rattle.jxl_cuts.specs.Theorems.{All}
+use Rattle.jxl_files.specs.Parser.{parser}
 use Rattle.jxl_files.specs.Grammar.{want, Listing, file}
 use Rattle.jxl_files.specs.Joined.{joined}
 use Rattle.jxl_files.specs.Joiner.{run, AllCounted}
@@ -31,11 +33,8 @@ abbrev pub NothingToJoin : Type 0
 NothingToJoin = (p : ContainerParser) (at : ℕ) (s : List ℕ) → joined (events (take p at s)) ≡ events (take p at s)
 
 -- the events of `f`, joined, and what else it came to, are those of `t`
-pub record Agrees (f t : Seen) : Type 0 where
-  pub events-are : joined (events f) ≡ events t
-  pub consumed-is : f .consumed ≡ t .consumed
-  pub stop-is : f .stop ≡ t .stop
-  pub next-is : f .next ≡ t .next
+abbrev pub Agrees : Seen → Seen → Type 0
+Agrees = Any.Agrees parser
 
 -- every cut: any packets, from any record that is not refused, come to what all their bytes come to, fed at once
 abbrev pub EveryCut : Type 0
@@ -48,13 +47,8 @@ EveryCutOfAFile =
     × (feeding fresh 0 xs .consumed ≡ file (bytesOf xs) .consumed) × (feeding fresh 0 xs .stop ≡ file (bytesOf xs) .stop)
 
 -- the bytes shown are the file's at the event's place, and all of them are there
-pub record Right (file : List ℕ) (x : Shown) : Type 0 where
-  pub same : x .bytes ≡ payloadOf file (x .event)
-  pub inside : Inside (x .event) (length file)
-
-abbrev pub All : (Shown → Type 0) → List Shown → Type 0
-All P [] = Unit {0}
-All P (x ∷ xs) = P x × All P xs
+abbrev pub Right : List ℕ → Shown → Type 0
+Right = Any.Right parser
 
 -- bytes shown: each payload shown is, byte for byte, the file at its place
 abbrev pub BytesShown : Type 0
