@@ -33,10 +33,7 @@ module _ (s : List ℕ) where
       → starts s containerSig ≡ false → signatureOf s ≡ Neither
   unfolding signatureOf
   is-neither a b d e = rw (a, b, d, e)
-
   -- two answers that meet the promise of `which_signature` are equal
-  pub one-signature : {r r′ : Signature} → r ≡ signatureOf s → r′ ≡ signatureOf s → r ≡ r′
-  one-signature p q = p ∙ sym q
 
 -- a container's signature is there; what is too short to tell has at most 12 bytes
 abbrev Sized : Signature → ℕ → Type 0

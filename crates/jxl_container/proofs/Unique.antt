@@ -1,16 +1,14 @@
 -- Two answers that meet a promise are equal.
-use mathlib.Core.Path.{_≡_, refl, sym, ap, _∙_}
-use mathlib.Core.List.{List}
-use Prim.Native.Nat.{ℕ}
+use mathlib.Core.Path.{_≡_, refl, ap}
+use Rattle.jxl_base.proofs.OneAnswer.{one-named, one-told}
 use Rattle.jxl_container.specs.Record.{why, fresh, kindOf}
+use Rattle.jxl_container.specs.Signature.{signatureOf}
+use Rattle.jxl_container.specs.Laws.{OneSignature, OneHeader, OneParser, OneKind, OneStep, OnePayload}
 use Rattle.jxl_container.specs.Header.{headerOf, numbered, toldHeader}
 use Rattle.jxl_container.specs.Step.{told, stepOf, payloadOf}
 use Rattle.jxl_container.proofs.Header.{why-one}
-use Rattle.jxl_container.specs.declared.BitstreamKind.{BitstreamKind}
-use Rattle.jxl_container.specs.declared.ContainerParser.{ContainerParser}
 use Rattle.jxl_container.specs.declared.box_header.HeaderParseResult.{HeaderParseResult}
 use Rattle.jxl_container.specs.declared.box_header.HeaderParseResult.the-variants as H
-use Rattle.jxl_container.specs.declared.parse.Event.{Event}
 use Rattle.jxl_container.specs.declared.parse.Step.{Step}
 use Rattle.jxl_container.specs.declared.parse.Step.the-variants as A
 
@@ -45,17 +43,20 @@ told-one (A.Refused r p n) (A.Refused u q m) h =
     let name : r ≡ u = why-one r u same in
     cc
 
-pub one-header : (s : List ℕ) (x y : HeaderParseResult) → toldHeader x ≡ numbered (headerOf s) → toldHeader y ≡ numbered (headerOf s) → x ≡ y
-one-header s x y p q = header-one x y (p ∙ sym q)
+pub one-signature : OneSignature
+one-signature s = one-named (signatureOf s)
 
-pub one-step : (p : ContainerParser) (s : List ℕ) (x y : Step) → told x ≡ stepOf p s → told y ≡ stepOf p s → x ≡ y
-one-step p s x y e f = told-one x y (e ∙ sym f)
+pub one-header : OneHeader
+one-header s = one-told toldHeader header-one (numbered (headerOf s))
 
-pub one-parser : (x y : ContainerParser) → x ≡ fresh → y ≡ fresh → x ≡ y
-one-parser x y p q = p ∙ sym q
+pub one-parser : OneParser
+one-parser = one-named fresh
 
-pub one-kind : (p : ContainerParser) (x y : BitstreamKind) → x ≡ kindOf p → y ≡ kindOf p → x ≡ y
-one-kind p x y e f = e ∙ sym f
+pub one-kind : OneKind
+one-kind p = one-named (kindOf p)
 
-pub one-payload : (s : List ℕ) (e : Event) (x y : List ℕ) → x ≡ payloadOf s e → y ≡ payloadOf s e → x ≡ y
-one-payload s e x y p q = p ∙ sym q
+pub one-step : OneStep
+one-step p s = one-told told told-one (stepOf p s)
+
+pub one-payload : OnePayload
+one-payload s e = one-named (payloadOf s e)

@@ -3,9 +3,12 @@ use mathlib.Core.Path.{_≡_}
 use mathlib.Core.List.{List}
 use Prim.Native.Nat.{ℕ, _+_, _≤_}
 use lib.ListN.{length}
+use Rattle.jxl_base.specs.OneAnswer.{OneAnswer}
 use Rattle.jxl_cuts.specs.Machine.{Inside as PayloadInside}
-use Rattle.jxl_container.specs.Record.{Why, why, at}
-use Rattle.jxl_container.specs.Step.{Told, shows, wants, refuses, stepOf, payload}
+use Rattle.jxl_container.specs.Signature.{signatureOf}
+use Rattle.jxl_container.specs.Header.{headerOf, numbered, toldHeader}
+use Rattle.jxl_container.specs.Record.{Why, why, at, fresh, kindOf}
+use Rattle.jxl_container.specs.Step.{Told, shows, wants, refuses, told, stepOf, payload, payloadOf}
 use Rattle.jxl_container.specs.declared.BitstreamKind.{BitstreamKind}
 use Rattle.jxl_container.specs.declared.JxlpIndexState.{JxlpIndexState}
 use Rattle.jxl_container.specs.declared.Refusal.{Refusal}
@@ -36,3 +39,22 @@ Kept n (refuses w p c) = (c ≤ n) × Repeats w p
 
 abbrev pub EveryStep : Type 0
 EveryStep = (p : ContainerParser) (s : List ℕ) → Kept (length s) (stepOf p s)
+
+-- one answer: each promise determines what its function gives
+abbrev pub OneSignature : Type 0
+OneSignature = (s : List ℕ) → OneAnswer (λ r. r ≡ signatureOf s)
+
+abbrev pub OneHeader : Type 0
+OneHeader = (s : List ℕ) → OneAnswer (λ r. toldHeader r ≡ numbered (headerOf s))
+
+abbrev pub OneParser : Type 0
+OneParser = OneAnswer (λ r. r ≡ fresh)
+
+abbrev pub OneKind : Type 0
+OneKind = (p : ContainerParser) → OneAnswer (λ r. r ≡ kindOf p)
+
+abbrev pub OneStep : Type 0
+OneStep = (p : ContainerParser) (s : List ℕ) → OneAnswer (λ r. told r ≡ stepOf p s)
+
+abbrev pub OnePayload : Type 0
+OnePayload = (s : List ℕ) (e : Event) → OneAnswer (λ r. r ≡ payloadOf s e)

@@ -7,6 +7,7 @@ pub mod Lawful
 pub mod Taking
 pub mod Listed
 pub mod Theorems
+pub mod Caught
 pub mod Payloads
 pub mod Joining
 pub mod KindLaws

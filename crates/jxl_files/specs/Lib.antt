@@ -2,6 +2,6 @@ pub mod Grammar
 pub mod Joined
 pub mod Parser
 pub mod Feeding
-pub mod Theorems
 pub mod Joiner
 pub mod Placing
+pub mod Theorems

@@ -1,19 +1,21 @@
 -- The container parser as a machine that is fed.
+use mathlib.Core.List.{List}
+use Prim.Native.Nat.{ℕ}
 use Rattle.jxl_container.specs.Record.{Why}
-use Rattle.jxl_container.specs.Step.{shifted, stepOf, payload}
+use Rattle.jxl_container.specs.Step.{Told, shifted, stepOf, payload}
 use Rattle.jxl_container.specs.declared.ContainerParser.{ContainerParser}
 use Rattle.jxl_container.specs.declared.parse.Event.{Event}
 use Rattle.jxl_cuts.specs.Machine.{Machine}
 use Rattle.jxl_files.specs.Joined.{joins, longer, lengthOf}
 
--- at most 15 bytes are left unread; three bytes pay for an event, and a state is lent at most 9
-abbrev pub parser : Machine
-parser =
+-- a parser that steps so: at most 15 bytes are left unread; three bytes pay for an event, and a state is lent at most 9
+abbrev pub parserBy : (ContainerParser → List ℕ → Told) → Machine
+parserBy step =
     record {
       State = ContainerParser;
       Event = Event;
       Why = Why;
-      step = stepOf;
+      step = step;
       payload = payload;
       shifted = shifted;
       joins = joins;
@@ -22,3 +24,6 @@ parser =
       price = 3;
       lent = 9;
     }
+
+abbrev pub parser : Machine
+parser = parserBy stepOf

@@ -4,29 +4,68 @@ use mathlib.Core.Bool.{false}
 use mathlib.Core.List.{List, [], _∷_}
 use Prim.Native.Nat.{ℕ, _+_, _/_, _<_, _≤_, _^_}
 use lib.ListN.{length}
-use Rattle.jxl_container.specs.Record.{Why, fresh, isRefused, kindOf}
-use Rattle.jxl_container.specs.Step.{refuses, stepOf}
+use Rattle.jxl_container.specs.Record.{Why, refusal, fresh, isRefused, kindOf}
+use Rattle.jxl_container.specs.Step.{Told, shows, wants, refuses, stepOf}
 use Rattle.jxl_container.specs.declared.BitstreamKind.{BitstreamKind}
 use Rattle.jxl_container.specs.declared.BitstreamKind.the-variants as K
+use Rattle.jxl_container.specs.declared.DetectState.the-variants as S
 use Rattle.jxl_container.specs.declared.ContainerParser.{ContainerParser}
 use Rattle.jxl_container.specs.declared.parse.Event.{Event}
 use Rattle.jxl_container.specs.declared.parse.Event.the-variants as E
-use Rattle.jxl_cuts.specs.Theorems as Any
+use Rattle.jxl_base.specs.OneAnswer.{OneAnswer}
+use Rattle.jxl_cuts.specs.Feeding as Any
+use Rattle.jxl_cuts.specs.Theorems as AnyTheorems
 pub use Rattle.jxl_cuts.specs.Theorems.{All}
-use Rattle.jxl_files.specs.Parser.{parser}
+use Rattle.jxl_files.specs.Parser.{parserBy, parser}
 use Rattle.jxl_files.specs.Grammar.{want, Listing, file}
 use Rattle.jxl_files.specs.Joined.{joined}
-use Rattle.jxl_files.specs.Joiner.{run, AllCounted}
+use Rattle.jxl_files.specs.Joiner.{adding, run, AllCounted, mostEvents}
 use Rattle.jxl_files.specs.Feeding.{Shown, Seen, events, taking, take, feeding, bytesOf, Takes}
+use Rattle.jxl_files.specs.Placing.{placing}
 use Rattle.jxl_files.specs.declared.Held.the-variants.{Nothing}
+use Rattle.jxl_files.specs.declared.Joiner.{Joiner}
 
--- what was seen, as a listing
-abbrev pub listing : Seen → Listing
+-- what was seen of a parser that steps so, as a listing
+abbrev pub listing : {step : ContainerParser → List ℕ → Told} → Any.Seen (parserBy step) → Listing
 listing r = record { events = events r; consumed = r .consumed; stop = r .stop }
 
--- every file: fed whole to a fresh parser it shows exactly the grammar's events, consumes what it says and stops as it says
+-- a step that is right of every file: fed whole to a fresh parser it shows exactly the grammar's events, consumes what it says and
+-- stops as it says
+abbrev pub ListsEveryFile : (ContainerParser → List ℕ → Told) → Type 0
+ListsEveryFile step = (s : List ℕ) → listing {step = step} (Any.feeding (parserBy step) fresh 0 (s ∷ [])) ≡ file s
+
+-- every file
 abbrev pub EveryFile : Type 0
-EveryFile = (s : List ℕ) → listing (feeding fresh 0 (s ∷ [])) ≡ file s
+EveryFile = ListsEveryFile stepOf
+
+-- versions to catch: a parser that only refuses, one that only says KIND invalid, one that only says WANT, and one that gives its first
+-- event rightly and then says WANT
+abbrev pub onlyRefuses : ContainerParser → List ℕ → Told
+onlyRefuses p s = refuses (refusal 1 []) p 0
+
+abbrev pub onlyInvalid : ContainerParser → List ℕ → Told
+onlyInvalid p s = shows (E.Kind K.Invalid) p 0
+
+abbrev pub onlyWants : ContainerParser → List ℕ → Told
+onlyWants p s = wants p 0
+
+abbrev pub firstThenWants : ContainerParser → List ℕ → Told
+firstThenWants p s = elim (p .state) [
+    | S.WaitingSignature ↦ stepOf p s
+    | S.WaitingBoxHeader ↦ wants p 0
+    | S.WaitingJxlpIndex l ↦ wants p 0
+    | S.WaitingInnerType l ↦ wants p 0
+    | S.InAuxBox t l ↦ wants p 0
+    | S.InCodestream k l pending ↦ wants p 0
+    | S.Refused k r ↦ wants p 0
+  ]
+
+-- none of them is right of every file
+pub record Caught : Type 0 where
+  pub refuses-caught : ListsEveryFile onlyRefuses → ⊥
+  pub invalid-caught : ListsEveryFile onlyInvalid → ⊥
+  pub wants-caught : ListsEveryFile onlyWants → ⊥
+  pub first-caught : ListsEveryFile firstThenWants → ⊥
 
 -- with nothing to join: no two events of one feed lie end to end, from any record
 abbrev pub NothingToJoin : Type 0
@@ -34,7 +73,7 @@ NothingToJoin = (p : ContainerParser) (at : ℕ) (s : List ℕ) → joined (even
 
 -- the events of `f`, joined, and what else it came to, are those of `t`
 abbrev pub Agrees : Seen → Seen → Type 0
-Agrees = Any.Agrees parser
+Agrees = AnyTheorems.Agrees parser
 
 -- every cut: any packets, from any record that is not refused, come to what all their bytes come to, fed at once
 abbrev pub EveryCut : Type 0
@@ -48,7 +87,7 @@ EveryCutOfAFile =
 
 -- the bytes shown are the file's at the event's place, and all of them are there
 abbrev pub Right : List ℕ → Shown → Type 0
-Right = Any.Right parser
+Right = AnyTheorems.Right parser
 
 -- bytes shown: each payload shown is, byte for byte, the file at its place
 abbrev pub BytesShown : Type 0
@@ -116,3 +155,19 @@ JoinerJoins = (es : List Event) → AllCounted es → run Nothing es ≡ joined 
 -- and so, of a file under 2^64 bytes cut in any packets, exactly what the grammar lists
 abbrev pub JoinerListsTheFile : Type 0
 JoinerListsTheFile = (xs : List (List ℕ)) → length (bytesOf xs) < 2 ^ 64 → run Nothing (events (feeding fresh 0 xs)) ≡ file (bytesOf xs) .events
+
+-- one answer: each promise determines what its function gives
+abbrev pub OneNew : Type 0
+OneNew = OneAnswer (λ (r : Joiner). r .held ≡ Nothing)
+
+abbrev pub OneAdd : Type 0
+OneAdd = (j : Joiner) (e : Event) → OneAnswer (λ r. r ≡ adding (j .held) e)
+
+abbrev pub OneFinish : Type 0
+OneFinish = (j : Joiner) → OneAnswer (λ r. r ≡ j .held)
+
+abbrev pub OneMostEvents : Type 0
+OneMostEvents = (n k : ℕ) → OneAnswer (λ r. r ≡ mostEvents n k)
+
+abbrev pub OneWithPlace : Type 0
+OneWithPlace = (e : Event) (base : ℕ) → OneAnswer (λ r. r ≡ placing base e)

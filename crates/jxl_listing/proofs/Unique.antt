@@ -1,16 +1,16 @@
 -- Two answers that meet a promise are equal, and so are the buffers that they leave.
-use mathlib.Core.Path.{_≡_, sym, _∙_}
-use mathlib.Core.List.{List}
-use Prim.Native.Nat.{ℕ}
+use mathlib.Core.Path.{sym, _∙_}
 use lib.ListN.{length}
-use Rattle.jxl_listing.specs.Lines.{text}
-use Rattle.jxl_listing.specs.Putting.{leaves, putOf}
-use Rattle.jxl_listing.specs.declared.Line.{Line}
-use Rattle.jxl_listing.specs.declared.Put.{Put}
+use Rattle.jxl_base.proofs.OneAnswer.{one-named}
+use Rattle.jxl_container.specs.Record.{why}
+use Rattle.jxl_listing.specs.Lines.{printed, text}
+use Rattle.jxl_listing.specs.Theorems.{OnePut, OneLineLength, OneRefused}
 
-pub one-put : (d : List ℕ) (at : ℕ) (l : Line) (x y : Put) (b c : List ℕ)
-    → leaves x b ≡ putOf d at (text l) → leaves y c ≡ putOf d at (text l) → (x ≡ y) × (b ≡ c)
+pub one-put : OnePut
 one-put d at l x y b c p q = let same = p ∙ sym q in (cc, cc)
 
-pub one-line-length : (l : Line) (x y : ℕ) → x ≡ length (text l) → y ≡ length (text l) → x ≡ y
-one-line-length l x y p q = p ∙ sym q
+pub one-line-length : OneLineLength
+one-line-length l = one-named (length (text l))
+
+pub one-refused : OneRefused
+one-refused w = one-named (printed (why w))

@@ -8,6 +8,7 @@ use lib.ListN.{length, take, drop, set, getD, length-take, length-drop}
 use lib.Seq.{paste, paste-suc, drop-paste, getD-drop, take-all, take-take}
 use Rattle.jxl_listing.specs.Putting.{pasted}
 use Rattle.jxl_stream.specs.Kept.{kept}
+use Rattle.jxl_stream.specs.Theorems.{OneKeep}
 
 -- the next byte to move is not yet overwritten
 pub ahead : (d b : List ℕ) (from i at : ℕ) → i + from < length d → at ≡ from + i → b ≡ paste d 0 (drop from d) i → getD b at 0 ≡ getD (drop from d) i 0
@@ -40,7 +41,5 @@ all-moved d b from upto end i m e p =
 pub kept-fits : (d : List ℕ) (from upto : ℕ) → length (kept from upto d) ≤ length d
 kept-fits d from upto = omega (arith, length-take (upto - from) (drop from d), length-drop from d)
 
--- two answers that meet the promise of `keep`, with the buffer then, are equal
-pub one-keep : (d e e′ : List ℕ) (from upto r r′ : ℕ) → (r ≡ length (kept from upto d)) × (e ≡ pasted d 0 (kept from upto d))
-    → (r′ ≡ length (kept from upto d)) × (e′ ≡ pasted d 0 (kept from upto d)) → (r ≡ r′) × (e ≡ e′)
-one-keep d e e′ from upto r r′ (n, p) (n′, p′) = (n ∙ sym n′, p ∙ sym p′)
+pub one-keep : OneKeep
+one-keep d from upto r q b c (n, p) (m, e) = (n ∙ sym m, p ∙ sym e)

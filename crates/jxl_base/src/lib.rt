@@ -1,0 +1,1 @@
+// What every crate's promises share. No code.
