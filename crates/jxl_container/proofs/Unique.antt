@@ -30,15 +30,15 @@ header-one (H.Refused q) (H.Refused r) e =
     ap H.Refused (why-one q r same)
 
 told-one : (x y : Step) → told x ≡ told y → x ≡ y
-told-one (A.Shown e p n) (A.Shown f q m) h = cc
-told-one (A.Shown e p n) (A.Want q m) h = cc
-told-one (A.Shown e p n) (A.Refused r q m) h = cc
-told-one (A.Want p n) (A.Shown f q m) h = cc
+told-one (A.Shown p n e) (A.Shown q m f) h = cc
+told-one (A.Shown p n e) (A.Want q m) h = cc
+told-one (A.Shown p n e) (A.Refused q m r) h = cc
+told-one (A.Want p n) (A.Shown q m f) h = cc
 told-one (A.Want p n) (A.Want q m) h = cc
-told-one (A.Want p n) (A.Refused r q m) h = cc
-told-one (A.Refused r p n) (A.Shown f q m) h = cc
-told-one (A.Refused r p n) (A.Want q m) h = cc
-told-one (A.Refused r p n) (A.Refused u q m) h =
+told-one (A.Want p n) (A.Refused q m r) h = cc
+told-one (A.Refused p n r) (A.Shown q m f) h = cc
+told-one (A.Refused p n r) (A.Want q m) h = cc
+told-one (A.Refused p n r) (A.Refused q m u) h =
     let same : why r ≡ why u = cc in
     let name : r ≡ u = why-one r u same in
     cc

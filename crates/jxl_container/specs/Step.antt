@@ -35,9 +35,9 @@ Told = Answer ContainerParser Event Why
 
 -- what an answer of the code says in these terms
 abbrev pub told : Step → Told
-told (A.Shown e p n) = shows e p n
+told (A.Shown p n e) = shows e p n
 told (A.Want p n) = wants p n
-told (A.Refused r p n) = refuses (why r) p n
+told (A.Refused p n r) = refuses (why r) p n
 
 -- a refusal leaves the parser refused, and its kind what it was
 abbrev pub refused : Refusal → ContainerParser → ContainerParser

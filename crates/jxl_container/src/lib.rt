@@ -1,6 +1,6 @@
 // The JPEG XL container, after the Rust's container.rs: the parser as a record that goes in by value and comes back.
 ghost use mathlib.Core.Path.{_≡_};
-ghost use Rattle.jxl_container.specs.Record.{at, fresh, impossible, isRefused, kindOf, less, noIndex, overIndex, toEnd, under};
+ghost use Rattle.jxl_container.specs.Record.{at, fresh, impossible, kindOf, less, noIndex, overIndex, toEnd, under};
 
 pub mod box_header;
 pub mod consts;
@@ -39,6 +39,16 @@ pub enum Refusal {
 }
 
 impl Left {
+    // The same, made anew field by field: a copy takes the unused bytes along, which costs more than the step itself.
+    pub(crate) fn same(self) -> Left
+        ensures { λ r. ⌜ r ≡ self ⌝ }
+    {
+        match self {
+            Left::ToEnd => Left::ToEnd,
+            Left::Bytes(m) => Left::Bytes(m),
+        }
+    }
+
     // Whether the payload has fewer than `n` bytes.
     pub(crate) fn under(self, n: u64) -> bool
         ensures { λ r. ⌜ r ≡ under n self ⌝ }
@@ -147,6 +157,48 @@ impl ContainerParser {
         ContainerParser { state, jxlp }
     }
 
+    // The same record, made anew field by field, for the same reason.
+    pub(crate) fn same(self) -> Self
+        ensures { λ r. ⌜ r ≡ self ⌝ }
+    {
+        let state = self.state;
+        let jxlp = self.jxlp;
+        match state {
+            DetectState::WaitingSignature => {
+                ContainerParser::at(DetectState::WaitingSignature, jxlp)
+            }
+            DetectState::WaitingBoxHeader => {
+                ContainerParser::at(DetectState::WaitingBoxHeader, jxlp)
+            }
+            DetectState::WaitingJxlpIndex(left) => {
+                ContainerParser::at(DetectState::WaitingJxlpIndex(left.same()), jxlp)
+            }
+            DetectState::WaitingInnerType(left) => {
+                ContainerParser::at(DetectState::WaitingInnerType(left.same()), jxlp)
+            }
+            DetectState::InAuxBox { ty, left } => {
+                let l = left.same();
+                ContainerParser::at(DetectState::InAuxBox { ty, left: l }, jxlp)
+            }
+            DetectState::InCodestream {
+                kind,
+                left,
+                pending_no_more_aux_box,
+            } => {
+                let l = left.same();
+                let anew = DetectState::InCodestream {
+                    kind,
+                    left: l,
+                    pending_no_more_aux_box,
+                };
+                ContainerParser::at(anew, jxlp)
+            }
+            DetectState::Refused { kind, refusal } => {
+                ContainerParser::at(DetectState::Refused { kind, refusal }, jxlp)
+            }
+        }
+    }
+
     // The kind of bitstream: unknown before KIND, then KIND's.
     pub fn kind(self) -> BitstreamKind
         ensures { λ r. ⌜ r ≡ kindOf self ⌝ }
@@ -164,29 +216,6 @@ impl ContainerParser {
                 pending_no_more_aux_box: _,
             } => kind,
             DetectState::Refused { kind, refusal: _ } => kind,
-        }
-    }
-
-    // Whether the parser has refused.
-    pub(crate) fn is_refused(self) -> bool
-        ensures { λ r. ⌜ r ≡ isRefused self ⌝ }
-    {
-        let state = self.state;
-        match state {
-            DetectState::Refused {
-                kind: _,
-                refusal: _,
-            } => true,
-            DetectState::WaitingSignature => false,
-            DetectState::WaitingBoxHeader => false,
-            DetectState::WaitingJxlpIndex(_) => false,
-            DetectState::WaitingInnerType(_) => false,
-            DetectState::InAuxBox { ty: _, left: _ } => false,
-            DetectState::InCodestream {
-                kind: _,
-                left: _,
-                pending_no_more_aux_box: _,
-            } => false,
         }
     }
 

@@ -35,18 +35,18 @@ pub enum Event {
 // A step's answer.
 pub enum Step {
     Shown {
-        event: Event,
         next: ContainerParser,
         consumed: usize,
+        event: Event,
     },
     Want {
         next: ContainerParser,
         consumed: usize,
     },
     Refused {
-        refusal: Refusal,
         next: ContainerParser,
         consumed: usize,
+        refusal: Refusal,
     },
 }
 
@@ -452,13 +452,41 @@ fn state_step(p: ContainerParser, s: &[u8]) -> Step
 fn empty_step(p: ContainerParser) -> Step
     ensures { λ r. ⌜ Spec.told r ≡ Spec.stepOf p [] ⌝ }
 {
-    if p.is_refused() {
-        state_step(p, b"")
-    } else {
-        Step::Want {
+    let state = p.state;
+    match state {
+        DetectState::WaitingSignature => Step::Want {
             next: p,
             consumed: 0,
-        }
+        },
+        DetectState::WaitingBoxHeader => Step::Want {
+            next: p,
+            consumed: 0,
+        },
+        DetectState::WaitingJxlpIndex(_) => Step::Want {
+            next: p,
+            consumed: 0,
+        },
+        DetectState::WaitingInnerType(_) => Step::Want {
+            next: p,
+            consumed: 0,
+        },
+        DetectState::InAuxBox { ty: _, left: _ } => Step::Want {
+            next: p,
+            consumed: 0,
+        },
+        DetectState::InCodestream {
+            kind: _,
+            left: _,
+            pending_no_more_aux_box: _,
+        } => Step::Want {
+            next: p,
+            consumed: 0,
+        },
+        DetectState::Refused { kind: _, refusal } => Step::Refused {
+            refusal,
+            next: p,
+            consumed: 0,
+        },
     }
 }
 
@@ -467,13 +495,14 @@ impl ContainerParser {
     pub fn step(self, s: &[u8]) -> Step
         ensures { λ r. ⌜ Spec.told r ≡ Spec.stepOf self (now (s .entry)) ⌝ }
     {
+        let p = self.same();
         if s.len() == 0 {
-            return empty_step(self);
+            return empty_step(p);
         }
-        if self.is_impossible() {
-            return refuse(Refusal::InvalidBox, self, 0);
+        if p.is_impossible() {
+            return refuse(Refusal::InvalidBox, p, 0);
         }
-        state_step(self, s)
+        state_step(p, s)
     }
 }
 

@@ -51,14 +51,14 @@ onlyWants p s = wants p 0
 
 abbrev pub firstThenWants : ContainerParser → List ℕ → Told
 firstThenWants p s = elim (p .state) [
-    | S.WaitingSignature ↦ stepOf p s
-    | S.WaitingBoxHeader ↦ wants p 0
-    | S.WaitingJxlpIndex l ↦ wants p 0
-    | S.WaitingInnerType l ↦ wants p 0
-    | S.InAuxBox t l ↦ wants p 0
-    | S.InCodestream k l pending ↦ wants p 0
-    | S.Refused k r ↦ wants p 0
-  ]
+  | S.WaitingSignature ↦ stepOf p s
+  | S.WaitingBoxHeader ↦ wants p 0
+  | S.WaitingJxlpIndex l ↦ wants p 0
+  | S.WaitingInnerType l ↦ wants p 0
+  | S.InAuxBox t l ↦ wants p 0
+  | S.InCodestream k l pending ↦ wants p 0
+  | S.Refused k r ↦ wants p 0
+]
 
 -- none of them is right of every file
 pub record Caught : Type 0 where
