@@ -1,12 +1,13 @@
 -- How a turn goes, with no count of its steps: what is proved of every turn goes by these four ways.
 use mathlib.Core.Path.{_≡_, refl, sym, ap, _∙_, subst}
 use mathlib.Core.Bool.{Bool, true, false}
-use mathlib.Core.List.{List, [], _∷_, _++_}
-use Prim.Native.Nat.{ℕ, zero, suc, _+_, _-_, _<_, _≤_}
+use mathlib.Core.Logic.{_⊎_, inl, inr, ⊎-elim}
+use mathlib.Core.List.{List}
+use Prim.Native.Nat.{ℕ, zero, suc, _+_, _-_, _^_, _<_, _≤_}
 use native.Mathlib.Omega.{arith}
-use lib.Dec.{leb}
+use lib.Dec.{leb, ltb}
 use lib.ListN.{length, drop}
-use borrow.Author.Tests.{leb-true, leb-false}
+use borrow.Author.Tests.{leb-true, leb-false, ltb-true, ltb-false}
 use Rattle.jxl_container.specs.Step.{Told, shows, wants, refuses, shifted, stepOf}
 use Rattle.jxl_container.specs.declared.ContainerParser.{ContainerParser}
 use Rattle.jxl_container.specs.declared.parse.Event.{Event}
@@ -16,11 +17,11 @@ use Rattle.jxl_files.specs.declared.Held.{Held}
 use Rattle.jxl_listing.specs.declared.Stop.{Stop}
 use Rattle.jxl_listing.specs.declared.Stop.the-variants as S
 use Rattle.jxl_turns.specs.Listed.{named, texts, nextIn, nextOf}
-use Rattle.jxl_turns.specs.Turned.{Turned, over, behind, turnFrom}
+use Rattle.jxl_turns.specs.Turned.{Turned, over, behind, turnFrom, turnOf}
 use Rattle.jxl_turns.specs.declared.End.the-variants as End
 use Rattle.jxl_turns.specs.declared.Following.the-variants as N
-use Rattle.jxl_turns.proofs.Text.{count, taken-shown, shown-fits}
-use Rattle.jxl_turns.proofs.Turning.{line, held, turn-shown, turn-full, turn-stopped}
+use Rattle.jxl_turns.proofs.Text.{count, taken-shown, shown-fits, wants-fits, refuses-fits}
+use Rattle.jxl_turns.proofs.Turning.{line, held, turn-shown, turn-full, turn-stopped, turn-near, turn-too-far}
 
 -- the line of the event that a joiner hands back for the event e, if any
 abbrev pub lineOf : Held → Event → List ℕ
@@ -84,3 +85,39 @@ module _ (base : ℕ) (s : List ℕ) where
       turn-full base s room p h k (ap (nextIn k) st) (omega (arith, none, ap (λ (x : Event). length (lineOf h x)) ev)) ∙ sym so
   came-to {room} {k} {p} {h} i (waits st so) = turn-stopped base s room p h k (ap (nextIn k) st) ∙ sym so
   came-to {room} {k} {p} {h} i (ends st so) = turn-stopped base s room p h k (ap (nextIn k) st) ∙ sym so
+
+  -- a turn stays in its input
+  pub inside : {room k : ℕ} {p : ContainerParser} {h : Held} {t : Turned} → k ≤ length s → Goes base s room p h k t → t .consumed ≤ length s
+  inside {k = k} {p = p} i (puts st ev at fits so g) =
+      omega (arith, inside (omega (arith, at, shown-fits p s k i st .1)) g, ap (λ (x : Turned). x .consumed) so)
+  inside i (lacks st ev none so) = omega (arith, ap (λ (x : Turned). x .consumed) so)
+  inside {k = k} {p = p} i (waits st so) = omega (arith, wants-fits p s k i st, ap (λ (x : Turned). x .consumed) so)
+  inside {k = k} {p = p} i (ends st so) = omega (arith, refuses-fits p s k i st, ap (λ (x : Turned). x .consumed) so)
+
+  pub near-ends : {room k : ℕ} {p : ContainerParser} {h : Held} {t : Turned} → Goes base s room p h k t → t .end ≡ End.TooFar → ⊥
+  near-ends (puts st ev at fits so g) e = near-ends g (sym (ap (λ (x : Turned). x .end) so) ∙ e)
+  near-ends (lacks st ev none so) e = let z : _≡_ {A = ℕ} 0 1 = cc in omega arith
+  near-ends (waits st so) e = let z : _≡_ {A = ℕ} 0 1 = cc in omega arith
+  near-ends (ends st so) e = let z : _≡_ {A = ℕ} 0 1 = cc in omega arith
+
+-- the same of a turn that looks first whether the input's place fits
+module _ (base : ℕ) (s : List ℕ) (room : ℕ) (p : ContainerParser) (h : Held) where
+  pub went : base + length s < 2 ^ 64 → Goes base s room p h 0 (turnOf base s room p h)
+  went near = subst (Goes base s room p h 0) (turn-near base s room p h near) (goes base s room p h 0 (omega arith))
+
+  pub comes : {t : Turned} → base + length s < 2 ^ 64 → Goes base s room p h 0 t → turnOf base s room p h ≡ t
+  comes near g = sym (turn-near base s room p h near) ∙ came-to base s (omega arith) g
+
+  -- an input whose place does not fit ends the turn before it starts
+  pub near-or-not : (base + length s < 2 ^ 64) ⊎ (turnOf base s room p h ≡ over End.TooFar p h 0)
+  near-or-not = go (ltb (base + length s) 18446744073709551616) refl
+    where
+      go : (b : Bool) → ltb (base + length s) 18446744073709551616 ≡ b → (base + length s < 2 ^ 64) ⊎ (turnOf base s room p h ≡ over End.TooFar p h 0)
+      go true y = inl (ltb-true (base + length s) 18446744073709551616 y)
+      go false y = inr (sym (turn-too-far base s room p h (ltb-false (base + length s) 18446744073709551616 y)))
+
+  pub full-near : turnOf base s room p h .end ≡ End.Full → base + length s < 2 ^ 64
+  full-near full = ⊎-elim (λ near. near) (λ far. absurd (let z : _≡_ {A = ℕ} 0 1 = cc in omega arith)) near-or-not
+
+  pub stopped-near : {w : Stop} → turnOf base s room p h .end ≡ End.Stopped w → base + length s < 2 ^ 64
+  stopped-near stop = ⊎-elim (λ near. near) (λ far. absurd (let z : _≡_ {A = ℕ} 0 1 = cc in omega arith)) near-or-not

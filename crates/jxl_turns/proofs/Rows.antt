@@ -1,15 +1,12 @@
 -- A row of turns is one turn.
 use mathlib.Core.Path.{_≡_, refl, sym, ap, _∙_, subst}
-use mathlib.Core.Bool.{Bool, true, false}
-use mathlib.Core.Logic.{_⊎_, inl, inr, ⊎-elim}
+use mathlib.Core.Logic.{⊎-elim}
 use mathlib.Core.List.{List, [], _∷_, _++_, append-nil}
-use Prim.Native.Nat.{ℕ, zero, suc, _+_, _-_, _^_, _<_, _≤_}
+use Prim.Native.Nat.{ℕ, suc, _+_, _-_, _^_, _<_, _≤_}
 use native.Mathlib.Omega.{arith}
-use lib.Dec.{ltb}
 use lib.ListN.{length, drop, length-append, length-drop}
 use lib.Seq.{drop-drop}
-use borrow.Author.Tests.{ltb-true, ltb-false}
-use Rattle.jxl_container.specs.Step.{Told, shows, wants, refuses, shifted, stepOf}
+use Rattle.jxl_container.specs.Step.{shifted, stepOf}
 use Rattle.jxl_container.specs.declared.ContainerParser.{ContainerParser}
 use Rattle.jxl_container.specs.declared.parse.Event.{Event}
 use Rattle.jxl_container.specs.declared.parse.Event.the-variants as E
@@ -22,13 +19,13 @@ use Rattle.jxl_listing.specs.declared.Stop.{Stop}
 use Rattle.jxl_listing.specs.declared.Stop.the-variants as S
 use Rattle.jxl_turns.specs.Listed.{named}
 use Rattle.jxl_turns.specs.Theorems.{Feeds, HeldFits, TurnsGoOn, RowIsOneTurn, RowWithRoom, RowFeeds, RowEnds}
-use Rattle.jxl_turns.specs.Turned.{Turned, over, behind, turnFrom, turnOf}
+use Rattle.jxl_turns.specs.Turned.{Turned, over, behind, turnOf}
 use Rattle.jxl_turns.specs.Row.{goesOn, rowBy, rowOf}
 use Rattle.jxl_turns.specs.declared.End.{End}
 use Rattle.jxl_turns.specs.declared.End.the-variants as End
-use Rattle.jxl_turns.proofs.Text.{count, taken-shown, shown-fits, wants-fits, refuses-fits}
-use Rattle.jxl_turns.proofs.Turning.{behind-behind, turn-near, turn-too-far}
-use Rattle.jxl_turns.proofs.Goes.{lineOf, heldThen, Goes, puts, lacks, waits, ends, goes, came-to}
+use Rattle.jxl_turns.proofs.Text.{count, taken-shown}
+use Rattle.jxl_turns.proofs.Turning.{behind-behind}
+use Rattle.jxl_turns.proofs.Goes.{lineOf, Goes, puts, lacks, waits, ends, inside, near-ends, went, comes, near-or-not, full-near, stopped-near}
 use Rattle.jxl_turns.proofs.Feeds.{whole-turn-feeds}
 use Rattle.jxl_turns.proofs.Full.{turn-keeps-fit, turn-advances}
 
@@ -94,51 +91,22 @@ module _ (base : ℕ) (s : List ℕ) where
   enough (waits st so) stop f = waits st so
   enough (ends st so) stop f = ends st so
 
-  -- a turn stays in its input
-  inside : {room k : ℕ} {p : ContainerParser} {h : Held} {t : Turned} → k ≤ length s → Goes base s room p h k t → t .consumed ≤ length s
-  inside {k = k} {p = p} i (puts st ev at fits so g) =
-      omega (arith, inside (omega (arith, at, shown-fits p s k i st .1)) g, ap (λ (x : Turned). x .consumed) so)
-  inside i (lacks st ev none so) = omega (arith, ap (λ (x : Turned). x .consumed) so)
-  inside {k = k} {p = p} i (waits st so) = omega (arith, wants-fits p s k i st, ap (λ (x : Turned). x .consumed) so)
-  inside {k = k} {p = p} i (ends st so) = omega (arith, refuses-fits p s k i st, ap (λ (x : Turned). x .consumed) so)
+  -- a turn that ended for want of room leaves events to come, and fewer if it put a line
+  pub record Left (p : ContainerParser) (k : ℕ) (t : Turned) : Type 0 where
+    pub some : 0 < count (t .parser) (t .consumed) s
+    pub most : count (t .parser) (t .consumed) s ≤ count p k s
+    pub fewer : 0 < length (t .lines) → count (t .parser) (t .consumed) s < count p k s
 
-  near-ends : {room k : ℕ} {p : ContainerParser} {h : Held} {t : Turned} → Goes base s room p h k t → t .end ≡ End.TooFar → ⊥
-  near-ends (puts st ev at fits so g) e = near-ends g (sym (ap (λ (x : Turned). x .end) so) ∙ e)
-  near-ends (lacks st ev none so) e = let z : _≡_ {A = ℕ} 0 1 = cc in omega arith
-  near-ends (waits st so) e = let z : _≡_ {A = ℕ} 0 1 = cc in omega arith
-  near-ends (ends st so) e = let z : _≡_ {A = ℕ} 0 1 = cc in omega arith
-
-  -- a turn that ended for want of room, and put a line, leaves fewer events to come
-  abbrev Fewer : ContainerParser → ℕ → Turned → Type 0
-  Fewer p k t = (count (t .parser) (t .consumed) s ≤ count p k s) × (0 < length (t .lines) → count (t .parser) (t .consumed) s < count p k s)
-
-  fewer : {room k : ℕ} {p : ContainerParser} {h : Held} {t : Turned} → Goes base s room p h k t → t .end ≡ End.Full → Fewer p k t
-  fewer {k = k} {p = p} (puts {m = m} {c = c} {q = q} {t = t} st ev at fits so g) full =
+  left-behind : {room k : ℕ} {p : ContainerParser} {h : Held} {t : Turned} → Goes base s room p h k t → t .end ≡ End.Full → Left p k t
+  left-behind {k = k} {p = p} (puts {m = m} {q = q} st ev at fits so g) full =
       let one : count p k s ≡ suc (count q m s) = ap (λ (x : Seen). length (x .shown)) (taken-shown p s k st) ∙ ap (λ (x : ℕ). suc (count q x s)) (sym at) in
-      let rest = fewer g (sym (ap (λ (x : Turned). x .end) so) ∙ full) .0 in
-      subst (Fewer p k) (sym so) (omega (arith, one, rest), λ some. omega (arith, one, rest))
-  fewer {k = k} {p = p} (lacks st ev none so) full = subst (Fewer p k) (sym so) (omega arith, λ some. absurd (omega (arith, some)))
-  fewer (waits st so) full = absurd (let z : _≡_ {A = ℕ} 0 1 = cc in omega arith)
-  fewer (ends st so) full = absurd (let z : _≡_ {A = ℕ} 0 1 = cc in omega arith)
-
--- the same of a turn that looks first whether the input's place fits
-module _ (base : ℕ) (s : List ℕ) (room : ℕ) (p : ContainerParser) (h : Held) where
-  went : base + length s < 2 ^ 64 → Goes base s room p h 0 (turnOf base s room p h)
-  went near = subst (Goes base s room p h 0) (turn-near base s room p h near) (goes base s room p h 0 (omega arith))
-
-  comes : {t : Turned} → base + length s < 2 ^ 64 → Goes base s room p h 0 t → turnOf base s room p h ≡ t
-  comes near g = sym (turn-near base s room p h near) ∙ came-to base s (omega arith) g
-
-  -- an input whose place does not fit ends the turn before it starts
-  near-or-not : (base + length s < 2 ^ 64) ⊎ (turnOf base s room p h ≡ over End.TooFar p h 0)
-  near-or-not = go (ltb (base + length s) 18446744073709551616) refl
-    where
-      go : (b : Bool) → ltb (base + length s) 18446744073709551616 ≡ b → (base + length s < 2 ^ 64) ⊎ (turnOf base s room p h ≡ over End.TooFar p h 0)
-      go true y = inl (ltb-true (base + length s) 18446744073709551616 y)
-      go false y = inr (sym (turn-too-far base s room p h (ltb-false (base + length s) 18446744073709551616 y)))
-
-  full-near : turnOf base s room p h .end ≡ End.Full → base + length s < 2 ^ 64
-  full-near full = ⊎-elim (λ near. near) (λ far. absurd (let z : _≡_ {A = ℕ} 0 1 = cc in omega arith)) near-or-not
+      let rest = left-behind g (sym (ap (λ (x : Turned). x .end) so) ∙ full) in
+      subst (Left p k) (sym so) (record { some = rest .some; most = omega (arith, one, rest .most); fewer = λ put. omega (arith, one, rest .most) })
+  left-behind {k = k} {p = p} (lacks st ev none so) full =
+      subst (Left p k) (sym so)
+      (record { some = omega (arith, ap (λ (x : Seen). length (x .shown)) (taken-shown p s k st)); most = omega arith; fewer = λ put. absurd (omega (arith, put)) })
+  left-behind (waits st so) full = absurd (let z : _≡_ {A = ℕ} 0 1 = cc in omega arith)
+  left-behind (ends st so) full = absurd (let z : _≡_ {A = ℕ} 0 1 = cc in omega arith)
 
 -- where the turn behind another one stands, its input's place fits too
 rest-near : (base : ℕ) (s : List ℕ) (c : ℕ) → c ≤ length s → base + length s < 2 ^ 64 → base + c + length (drop c s) < 2 ^ 64
@@ -233,8 +201,7 @@ row-with-room base s (first ∷ rooms) p h w room stop fits =
     let r = rowOf base s (first ∷ rooms) p h in
     let one = row-is-one-turn base s first rooms p h in
     let ended : turnOf base s (length (r .lines)) p h .end ≡ End.Stopped w = sym (ap (λ (x : Turned). x .end) one) ∙ stop in
-    let near : base + length s < 2 ^ 64 =
-    ⊎-elim (λ y. y) (λ far. absurd (let z : _≡_ {A = ℕ} 0 1 = cc in omega arith)) (near-or-not base s (length (r .lines)) p h) in
+    let near = stopped-near base s (length (r .lines)) p h ended in
     let g : Goes base s (length (r .lines)) p h 0 r = subst (Goes base s (length (r .lines)) p h 0) (sym one) (went base s (length (r .lines)) p h near) in
     sym (comes base s room p h near (enough base s g stop fits))
 
@@ -264,33 +231,38 @@ length-events [] = refl
 length-events (x ∷ xs) = ap suc (length-events xs)
 
 -- the turns that end for want of room use the events up
-module _ (base : ℕ) (s : List ℕ) (room : ℕ) (rooms : List ℕ) (p : ContainerParser) (h : Held) where
-  abbrev EndsByParser : Turned → Type 0
-  EndsByParser t = (w : Stop) × (t .end ≡ End.Stopped w)
+abbrev EndsByParser : Turned → Type 0
+EndsByParser t = (w : Stop) × (t .end ≡ End.Stopped w)
 
-  ends-by : base + length s < 2 ^ 64 → (First base s room p h .end ≡ End.Full → EndsByParser (Rest base s room rooms p h)) → (e : End) → First base s room p h .end ≡ e
+module _ (base : ℕ) (s : List ℕ) (room : ℕ) (p : ContainerParser) (h : Held) (near : base + length s < 2 ^ 64) where
+  ends-by : (rooms : List ℕ) → (First base s room p h .end ≡ End.Full → EndsByParser (Rest base s room rooms p h)) → (e : End) → First base s room p h .end ≡ e
       → EndsByParser (rowOf base s (room ∷ rooms) p h)
-  ends-by near more End.Full e = subst EndsByParser (sym (row-full base s room rooms p h e)) (more e)
-  ends-by near more (End.Stopped w) e = (w, ap (λ (x : Turned). x .end) (row-stopped base s room rooms p h e) ∙ e)
-  ends-by near more End.TooFar e = absurd (near-ends base s (went base s room p h near) e)
+  ends-by rooms more End.Full e = subst EndsByParser (sym (row-full base s room rooms p h e)) (more e)
+  ends-by rooms more (End.Stopped w) e = (w, ap (λ (x : Turned). x .end) (row-stopped base s room rooms p h e) ∙ e)
+  ends-by rooms more End.TooFar e = absurd (near-ends base s (went base s room p h near) e)
 
-  fewer-left : base + length s < 2 ^ 64 → HeldFits h → 56 ≤ room → First base s room p h .end ≡ End.Full
-      → count (First base s room p h .parser) 0 (drop (First base s room p h .consumed) s) < count p 0 s
-  fewer-left near f r full =
+  events-left : HeldFits h → 56 ≤ room → First base s room p h .end ≡ End.Full
+      → let n = count (First base s room p h .parser) 0 (drop (First base s room p h .consumed) s) in (0 < n) × (n < count p 0 s)
+  events-left f r full =
       let t = First base s room p h in
-      omega (arith, same-count (t .parser) (t .consumed) s, fewer base s (went base s room p h near) full .1 (turn-advances base s room p h f r full))
+      let rest = left-behind base s (went base s room p h near) full in
+      let same = same-count (t .parser) (t .consumed) s in
+      (omega (arith, same, rest .some), omega (arith, same, rest .fewer (turn-advances base s room p h f r full)))
 
-row-ends-for : (base : ℕ) (s : List ℕ) (rooms : List ℕ) (p : ContainerParser) (h : Held) → base + length s < 2 ^ 64 → HeldFits h → All (λ room. 56 ≤ room) rooms
-    → count p 0 s < length rooms → (w : Stop) × (rowOf base s rooms p h .end ≡ End.Stopped w)
-row-ends-for base s [] p h near f all few = absurd (omega arith)
-row-ends-for base s (room ∷ rooms) p h near f (r, all) few =
+  near-then : base + First base s room p h .consumed + length (drop (First base s room p h .consumed) s) < 2 ^ 64
+  near-then = rest-near base s (First base s room p h .consumed) (inside base s (omega arith) (went base s room p h near)) near
+
+ends-for : (base : ℕ) (s : List ℕ) (room : ℕ) (rooms : List ℕ) (p : ContainerParser) (h : Held) → base + length s < 2 ^ 64 → HeldFits h
+    → All (λ r. 56 ≤ r) (room ∷ rooms) → count p 0 s ≤ length (room ∷ rooms) → EndsByParser (rowOf base s (room ∷ rooms) p h)
+ends-for base s room [] p h near f (r, all) few =
+    ends-by base s room p h near [] (λ full. absurd (omega (arith, few, events-left base s room p h near f r full .0, events-left base s room p h near f r full .1))) _ refl
+ends-for base s room (next ∷ rooms) p h near f (r, all) few =
     let t = turnOf base s room p h in
-    ends-by base s room rooms p h near
-    (λ full. row-ends-for (base + t .consumed) (drop (t .consumed) s) rooms (t .parser) (t .held)
-    (rest-near base s (t .consumed) (inside base s (omega arith) (went base s room p h near)) near) (turn-keeps-fit base s room p h f) all
-    (omega (arith, few, fewer-left base s room rooms p h near f r full)))
-    (t .end) refl
+    ends-by base s room p h near (next ∷ rooms)
+    (λ full. ends-for (base + t .consumed) (drop (t .consumed) s) next rooms (t .parser) (t .held) (near-then base s room p h near) (turn-keeps-fit base s room p h f) all
+    (omega (arith, few, events-left base s room p h near f r full .1)))
+    _ refl
 
 pub row-ends : RowEnds
-row-ends base s rooms p h near f all few =
-    row-ends-for base s rooms p h near f all (omega (arith, few, length-events (Feeding.take p 0 s .shown)))
+row-ends base s room rooms p h near f all few =
+    ends-for base s room rooms p h near f all (omega (arith, few, length-events (Feeding.take p 0 s .shown)))

@@ -90,8 +90,9 @@ RowFeeds =
     (base : ℕ) (s : List ℕ) (rooms : List ℕ) (p : ContainerParser) (h : Held) (w : Stop) → rowOf base s rooms p h .end ≡ End.Stopped w
     → Feeds base h (Feeding.take p 0 s) w (rowOf base s rooms p h)
 
--- the parser ends a row of more turns than there are events, each with room for the longest line
+-- the parser ends a row of as many turns as there are events, one at least, each with room for the longest line
 abbrev pub RowEnds : Type 0
 RowEnds =
-    (base : ℕ) (s : List ℕ) (rooms : List ℕ) (p : ContainerParser) (h : Held) → base + length s < 2 ^ 64 → HeldFits h → All (λ room. 56 ≤ room) rooms
-    → length (events (Feeding.take p 0 s)) < length rooms → (w : Stop) × (rowOf base s rooms p h .end ≡ End.Stopped w)
+    (base : ℕ) (s : List ℕ) (room : ℕ) (rooms : List ℕ) (p : ContainerParser) (h : Held) → base + length s < 2 ^ 64 → HeldFits h
+    → All (λ r. 56 ≤ r) (room ∷ rooms) → length (events (Feeding.take p 0 s)) ≤ length (room ∷ rooms)
+    → (w : Stop) × (rowOf base s (room ∷ rooms) p h .end ≡ End.Stopped w)
