@@ -1,23 +1,25 @@
 -- A turn that the parser ended takes what feeding takes.
 use mathlib.Core.Path.{_≡_, refl, sym, ap, _∙_, subst}
 use mathlib.Core.List.{List, [], _∷_, _++_, append-assoc}
-use Prim.Native.Nat.{ℕ}
+use Prim.Native.Nat.{ℕ, _+_}
 use native.Mathlib.Omega.{arith}
 use lib.ListN.{drop}
 use Rattle.jxl_container.specs.Step.{shifted}
 use Rattle.jxl_container.specs.declared.ContainerParser.{ContainerParser}
 use Rattle.jxl_container.specs.declared.parse.Event.{Event}
-use Rattle.jxl_files.specs.Feeding.{Seen, events, followed, placed}
+use Rattle.jxl_files.specs.Feeding.{Seen, events, followed, placed, stops}
 use Rattle.jxl_files.specs.Feeding as Feeding
+use Rattle.jxl_files.specs.Grammar as G
 use Rattle.jxl_files.specs.Joiner.{adding, handed, run}
 use Rattle.jxl_files.specs.declared.Held.{Held}
 use Rattle.jxl_files.proofs.Taking.{take-is}
 use Rattle.jxl_listing.specs.Lines.{text}
 use Rattle.jxl_listing.specs.declared.Line.the-variants as L
 use Rattle.jxl_listing.specs.declared.Stop.{Stop}
-use Rattle.jxl_turns.specs.Listed.{texts}
+use Rattle.jxl_turns.specs.Listed.{stopOf, texts}
 use Rattle.jxl_turns.specs.Theorems.{allShifted, Feeds, TurnFeeds, WholeTurnFeeds}
-use Rattle.jxl_turns.specs.Turned.{Turned, behind}
+use Rattle.jxl_turns.specs.Turned.{Turned, over, behind}
+use Rattle.jxl_turns.specs.declared.End.{End}
 use Rattle.jxl_turns.specs.declared.End.the-variants as End
 use Rattle.jxl_turns.proofs.Text.{taken-shown}
 use Rattle.jxl_turns.proofs.Goes.{lineOf, heldThen, Goes, puts, lacks, waits, ends, goes, went, stopped-near}
@@ -25,6 +27,10 @@ use Rattle.jxl_turns.proofs.Goes.{lineOf, heldThen, Goes, puts, lacks, 
 pub texts-append : (a b : List Event) → texts (a ++ b) ≡ texts a ++ texts b
 texts-append [] b = refl
 texts-append (e ∷ es) b = ap (λ (l : List ℕ). text (L.Shown e) ++ l) (texts-append es b) ∙ sym (append-assoc (text (L.Shown e)) (texts es) (texts b))
+
+-- at the stop the joiner hands back what it holds
+at-stop : (base : ℕ) (h : Held) (x : G.Stop) (q : ContainerParser) (k : ℕ) {w : Stop} {e : End} → w ≡ stopOf x → Feeds base h (stops x q k) w (over e q h k)
+at-stop base h x q k same = record { lines-are = refl; parser-is = refl; consumed-is = refl; stop-is = same }
 
 -- an event's line goes in front of the others, as the joiner hands it back first
 one-more : {base : ℕ} {h : Held} {w : Stop} {f : Seen} {t : Turned} (k : ℕ) (s : List ℕ) (d e : Event) → e ≡ shifted base (shifted k d) → Feeds base (heldThen h e) f w t
@@ -59,10 +65,10 @@ module _ (base : ℕ) (s : List ℕ) (w : Stop) where
       taken p h k so (taken-shown p s k st ∙ ap (λ (x : ℕ). followed (placed k (drop k s) d ∷ []) (Feeding.take q x (drop x s))) (sym at))
       (λ stop. one-more k (drop k s) d e ev (feeds g stop))
   feeds (lacks st ev none so) = λ stop. absurd (let z : _≡_ {A = ℕ} 0 1 = cc in omega arith)
-  feeds {k = k} {p = p} {h = h} (waits st so) =
-      taken p h k so (take-is (Feeding.waits st)) (λ stop. record { lines-are = refl; parser-is = refl; consumed-is = refl; stop-is = cc })
-  feeds {k = k} {p = p} {h = h} (ends st so) =
-      taken p h k so (take-is (Feeding.ends st)) (λ stop. record { lines-are = refl; parser-is = refl; consumed-is = refl; stop-is = cc })
+  feeds {k = k} {p = p} {h = h} (waits {c = c} {q = q} st so) =
+      taken p h k so (take-is (Feeding.waits st)) (λ stop. at-stop base h G.want q (k + c) (cc))
+  feeds {k = k} {p = p} {h = h} (ends {c = c} {n = n} {q = q} st so) =
+      taken p h k so (take-is (Feeding.ends st)) (λ stop. at-stop base h (G.refused n) q (k + c) (cc))
 
 pub turn-feeds : TurnFeeds
 turn-feeds base s room p h w = feeds base s w (goes base s room p h 0 (omega arith))
