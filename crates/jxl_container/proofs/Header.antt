@@ -11,7 +11,7 @@ use Rattle.jxl_container.specs.Bytes.{if, be32, be64}
 use Rattle.jxl_container.specs.Header.{Header, short, bad, box, headerOf, extended, ToldHeader, numbered}
 use Rattle.jxl_container.specs.declared.Left.{Left}
 use Rattle.jxl_container.specs.declared.Left.the-variants.{ToEnd, Bytes}
-use Rattle.jxl_container.specs.Record.{number}
+use Rattle.jxl_container.specs.Record.{why}
 use Rattle.jxl_container.specs.declared.Refusal.{Refusal}
 use Rattle.jxl_container.specs.declared.Refusal.the-variants.{InvalidBox, ValidationFailed}
 
@@ -99,22 +99,21 @@ header-fits s e = rw e at (header-sized s)
 pub header-under : (s : List ℕ) → headerOf s ≡ short → length s < 16
 header-under s e = rw e at (header-sized s)
 
--- each refusal has a number of its own
-pub number-one : (r q : Refusal) → number r ≡ number q → r ≡ q
-number-one InvalidBox InvalidBox e = refl
-number-one InvalidBox ValidationFailed e = absurd (omega arith)
-number-one ValidationFailed InvalidBox e = absurd (omega arith)
-number-one ValidationFailed ValidationFailed e = refl
+-- the number and what is told say which refusal it is
+pub why-one : (r q : Refusal) → why r ≡ why q → r ≡ q
+why-one InvalidBox InvalidBox e = refl
+why-one InvalidBox ValidationFailed e = cc
+why-one ValidationFailed InvalidBox e = cc
+why-one ValidationFailed ValidationFailed e = refl
 
--- the number tells which refusal it is
 pub unnumbered : (g h : Header) → numbered g ≡ numbered h → g ≡ h
 unnumbered short short e = refl
 unnumbered short (bad r) e = cc
 unnumbered short (box t l n) e = cc
 unnumbered (bad r) short e = cc
 unnumbered (bad r) (bad q) e =
-    let same : number r ≡ number q = cc in
-    ap bad (number-one r q same)
+    let same : why r ≡ why q = cc in
+    ap bad (why-one r q same)
 unnumbered (bad r) (box t l n) e = cc
 unnumbered (box t l n) short e = cc
 unnumbered (box t l n) (bad r) e = cc

@@ -9,7 +9,7 @@ use lib.ListN.{length, drop, length-drop}
 use borrow.Author.Tests.{ltb-true, ltb-false, leb-true, leb-false, eqb-true, eqb-false}
 use Rattle.jxl_container.specs.Bytes.{if, be32}
 use Rattle.jxl_container.specs.Signature.{signatureOf}
-use Rattle.jxl_container.specs.Record.{number, at, under, less, toEnd, refusedIn, isRefused, impossible}
+use Rattle.jxl_container.specs.Record.{Why, why, at, under, less, toEnd, refusedIn, isRefused, impossible}
 use Rattle.jxl_container.specs.Types.{jxlc, jxlp, brob, reserved}
 use Rattle.jxl_container.specs.Header.{Header, short, bad, box, headerOf}
 use Rattle.jxl_container.specs.Step.{Told, shows, wants, refuses, refused, refuse, shifted, ahead, inCode, codePart, codeStep, auxPart, row, indexStep, innerStep, jxlcStep, jxlpNext, jxlpStep, brobStep, boxStep, headerStep, signatureStep, awaited, stateStep, stepOf}
@@ -37,16 +37,16 @@ pub refused-stays : RefusedStays
 refused-stays k r j [] = step-empty-refused (at (S.Refused k r) j) refl
 refused-stays k r j (x ∷ s) = step-state (at (S.Refused k r) j) (x ∷ s) (omega arith) refl
 
-stays-in : (d : DetectState) (j : JxlpIndexState) → refusedIn d ≡ true → (n : ℕ) × Repeats n (at d j)
+stays-in : (d : DetectState) (j : JxlpIndexState) → refusedIn d ≡ true → (w : Why) × Repeats w (at d j)
 stays-in S.WaitingSignature j e = absurd (let z : _≡_ {A = ℕ} 0 1 = cc in omega arith)
 stays-in S.WaitingBoxHeader j e = absurd (let z : _≡_ {A = ℕ} 0 1 = cc in omega arith)
 stays-in (S.WaitingJxlpIndex l) j e = absurd (let z : _≡_ {A = ℕ} 0 1 = cc in omega arith)
 stays-in (S.WaitingInnerType l) j e = absurd (let z : _≡_ {A = ℕ} 0 1 = cc in omega arith)
 stays-in (S.InAuxBox t l) j e = absurd (let z : _≡_ {A = ℕ} 0 1 = cc in omega arith)
 stays-in (S.InCodestream k l pending) j e = absurd (let z : _≡_ {A = ℕ} 0 1 = cc in omega arith)
-stays-in (S.Refused k r) j e = (number r, refused-stays k r j)
+stays-in (S.Refused k r) j e = (why r, refused-stays k r j)
 
-pub stays : (p : ContainerParser) → isRefused p ≡ true → (n : ℕ) × Repeats n p
+pub stays : (p : ContainerParser) → isRefused p ≡ true → (w : Why) × Repeats w p
 stays p e = stays-in (p .state) (p .jxlp) e
 
 inside-ahead : (k n : ℕ) (e : Event) → k ≤ n → Inside e (n - k) → Inside (shifted k e) n

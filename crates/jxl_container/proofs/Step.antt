@@ -9,6 +9,7 @@ use lib.Dec.{ltb, leb, eqb}
 use lib.ListN.{length, getD, take, drop, length-drop}
 use lib.Seq.{getD-drop, drop-drop}
 use borrow.Author.Tests.{lt-ltb, le-ltb, le-leb, lt-leb, eq-eqb, ne-eqb}
+use Rattle.jxl_cuts.proofs.Ahead.{ahead-twice}
 use Rattle.jxl_container.specs.Bytes.{be32, be64, empty}
 use Rattle.jxl_container.specs.Record.{at, less, toEnd, refusedIn, isRefused, impossibleIn, impossible}
 use Rattle.jxl_container.specs.Types.{jxlc, jxlp, brob, reserved}
@@ -47,9 +48,7 @@ ahead-zero (wants p c) = rw (zero-add c)
 ahead-zero (refuses r p c) = rw (zero-add c)
 
 pub ahead-ahead : (n m : ℕ) (t : Told) → ahead n (ahead m t) ≡ ahead (n + m) t
-ahead-ahead n m (shows e p c) = rw (shifted-shifted n m e, add-assoc n m c)
-ahead-ahead n m (wants p c) = rw (add-assoc n m c)
-ahead-ahead n m (refuses r p c) = rw (add-assoc n m c)
+ahead-ahead = ahead-twice shifted shifted-shifted
 
 pub empty-yes : (s : List ℕ) → length s ≤ 0 → empty s ≡ true
 empty-yes [] h = refl

@@ -2,10 +2,10 @@
 use mathlib.Core.Path.{_≡_, refl, sym, ap, _∙_}
 use mathlib.Core.List.{List}
 use Prim.Native.Nat.{ℕ}
-use Rattle.jxl_container.specs.Record.{number, fresh, kindOf}
+use Rattle.jxl_container.specs.Record.{why, fresh, kindOf}
 use Rattle.jxl_container.specs.Header.{headerOf, numbered, toldHeader}
 use Rattle.jxl_container.specs.Step.{told, stepOf, payloadOf}
-use Rattle.jxl_container.proofs.Header.{number-one}
+use Rattle.jxl_container.proofs.Header.{why-one}
 use Rattle.jxl_container.specs.declared.BitstreamKind.{BitstreamKind}
 use Rattle.jxl_container.specs.declared.ContainerParser.{ContainerParser}
 use Rattle.jxl_container.specs.declared.box_header.HeaderParseResult.{HeaderParseResult}
@@ -28,8 +28,8 @@ header-one H.NeedMoreData (H.Refused r) e = cc
 header-one (H.Refused q) (H.Done g m) e = cc
 header-one (H.Refused q) H.NeedMoreData e = cc
 header-one (H.Refused q) (H.Refused r) e =
-    let same : number q ≡ number r = cc in
-    ap H.Refused (number-one q r same)
+    let same : why q ≡ why r = cc in
+    ap H.Refused (why-one q r same)
 
 told-one : (x y : Step) → told x ≡ told y → x ≡ y
 told-one (A.Shown e p n) (A.Shown f q m) h = cc
@@ -41,8 +41,8 @@ told-one (A.Want p n) (A.Refused r q m) h = cc
 told-one (A.Refused r p n) (A.Shown f q m) h = cc
 told-one (A.Refused r p n) (A.Want q m) h = cc
 told-one (A.Refused r p n) (A.Refused u q m) h =
-    let same : number r ≡ number u = cc in
-    let name : r ≡ u = number-one r u same in
+    let same : why r ≡ why u = cc in
+    let name : r ≡ u = why-one r u same in
     cc
 
 pub one-header : (s : List ℕ) (x y : HeaderParseResult) → toldHeader x ≡ numbered (headerOf s) → toldHeader y ≡ numbered (headerOf s) → x ≡ y

@@ -1,13 +1,10 @@
--- Bytes as numbers, and the choice between two values.
+-- Bytes as numbers, and what two answers of a test come to.
 use mathlib.Core.Bool.{Bool, true, false}
 use mathlib.Core.List.{List, [], _∷_}
 use Prim.Native.Nat.{ℕ, _+_, _*_}
 use lib.Dec.{eqb}
 use lib.ListN.{getD}
-
-abbrev pub if : {A : Type 0} → Bool → A → A → A
-if true a b = a
-if false a b = b
+pub use Rattle.jxl_cuts.specs.Machine.{if}
 
 abbrev pub and : Bool → Bool → Bool
 and true b = b

@@ -1,5 +1,6 @@
 -- The parser's record: a new one, its kind, its refusals, and the records that no file leads to.
 use mathlib.Core.Bool.{Bool, true, false}
+use mathlib.Core.List.{List, []}
 use Prim.Native.Nat.{ℕ, _-_}
 use lib.Dec.{ltb, leb}
 use Rattle.jxl_container.specs.Bytes.{or}
@@ -15,10 +16,14 @@ use Rattle.jxl_container.specs.declared.DetectState.{DetectState}
 use Rattle.jxl_container.specs.declared.DetectState.the-variants as S
 use Rattle.jxl_container.specs.declared.ContainerParser.{ContainerParser}
 
--- the paper's number of each refusal
-abbrev pub number : Refusal → ℕ
-number InvalidBox = 1
-number ValidationFailed = 2
+-- a refusal in the paper's words: its number, and the values that it tells
+pub data Why : Type 0 where
+  refusal : ℕ → List ℕ → Why
+
+-- each refusal of the code in these words
+abbrev pub why : Refusal → Why
+why InvalidBox = refusal 1 []
+why ValidationFailed = refusal 2 []
 
 abbrev pub at : DetectState → JxlpIndexState → ContainerParser
 at state jxlp = record { state = state; jxlp = jxlp }

@@ -4,11 +4,11 @@ use mathlib.Core.List.{List, []}
 use Prim.Native.Nat.{ℕ, _+_, _-_, _%_, _/_, min}
 use lib.Dec.{ltb, leb, eqb}
 use lib.ListN.{length, take, drop}
-use Rattle.jxl_cuts.specs.Machine.{Told as Answer}
+use Rattle.jxl_cuts.specs.Machine.{Told as Answer, Payload, none, bytes, bytesAt, aheadBy}
 pub use Rattle.jxl_cuts.specs.Machine.{shows, wants, refuses}
 use Rattle.jxl_container.specs.Bytes.{if, and, or, be32, empty}
 use Rattle.jxl_container.specs.Signature.{signatureOf}
-use Rattle.jxl_container.specs.Record.{number, at, kindOf, under, less, toEnd, impossible, isRefused}
+use Rattle.jxl_container.specs.Record.{Why, why, at, kindOf, under, less, toEnd, impossible, isRefused}
 use Rattle.jxl_container.specs.Header.{Header, short, bad, box, headerOf}
 use Rattle.jxl_container.specs.Types.{jxlc, jxlp, brob, reserved}
 use Rattle.jxl_container.specs.declared.consts.Signature.{Signature}
@@ -29,22 +29,22 @@ use Rattle.jxl_container.specs.declared.parse.Event.the-variants as E
 use Rattle.jxl_container.specs.declared.parse.Step.{Step}
 use Rattle.jxl_container.specs.declared.parse.Step.the-variants as A
 
--- one step gives one event, WANT or a refusal by its number, with the next parser and the bytes consumed
+-- one step gives one event, WANT or a refusal by its number and what it tells, with the next parser and the bytes consumed
 abbrev pub Told : Type 0
-Told = Answer ContainerParser Event ℕ
+Told = Answer ContainerParser Event Why
 
 -- what an answer of the code says in these terms
 abbrev pub told : Step → Told
 told (A.Shown e p n) = shows e p n
 told (A.Want p n) = wants p n
-told (A.Refused r p n) = refuses (number r) p n
+told (A.Refused r p n) = refuses (why r) p n
 
 -- a refusal leaves the parser refused, and its kind what it was
 abbrev pub refused : Refusal → ContainerParser → ContainerParser
 refused r p = at (S.Refused (kindOf p) r) (p .jxlp)
 
 abbrev pub refuse : Refusal → ContainerParser → ℕ → Told
-refuse r p n = refuses (number r) (refused r p) n
+refuse r p n = refuses (why r) (refused r p) n
 
 -- an event whose payload stands n bytes further on
 abbrev pub shifted : ℕ → Event → Event
@@ -57,9 +57,7 @@ shifted n (E.AuxEnd t) = E.AuxEnd t
 
 -- what is told of the input behind its first n bytes, said of the whole input
 abbrev pub ahead : ℕ → Told → Told
-ahead n (shows e p c) = shows (shifted n e) p (n + c)
-ahead n (wants p c) = wants p (n + c)
-ahead n (refuses r p c) = refuses r p (n + c)
+ahead = aheadBy shifted
 
 abbrev pub inCode : BitstreamKind → Left → Bool → JxlpIndexState → ContainerParser
 inCode k l pending j = at (S.InCodestream k l pending) j
@@ -173,7 +171,7 @@ stateStep (S.WaitingJxlpIndex l) j s = indexStep (awaited j) l s
 stateStep (S.WaitingInnerType l) j s = innerStep j l s
 stateStep (S.InAuxBox t l) j s = auxPart j t l (length s)
 stateStep (S.InCodestream k l pending) j s = codeStep j k l pending s
-stateStep (S.Refused k r) j s = refuses (number r) (at (S.Refused k r) j) 0
+stateStep (S.Refused k r) j s = refuses (why r) (at (S.Refused k r) j) 0
 
 -- an empty input answers WANT before anything else, except in a refused parser; a record that no file leads to is refused 1 with input there and 0 consumed
 unfoldable pub stepOf : ContainerParser → List ℕ → Told
@@ -184,13 +182,17 @@ stepOf p s =
 
 -- the part of the input that starts at a and is n bytes long; an empty part if it lies outside
 abbrev pub part : List ℕ → ℕ → ℕ → List ℕ
-part s a n = if (leb (a + n) (length s)) (take n (drop a s)) []
+part s a n = bytesAt s (bytes a n)
 
--- the payload that an event shows
+-- what an event shows of the input: CODESTREAM and AUX_DATA so many bytes from a place on, any other none
+abbrev pub payload : Event → Payload
+payload (E.Kind k) = none
+payload E.NoMoreAux = none
+payload (E.Codestream a n) = bytes a n
+payload (E.AuxStart t b e) = none
+payload (E.AuxData t a n) = bytes a n
+payload (E.AuxEnd t) = none
+
+-- the payload that an event shows; an empty part if it lies outside
 abbrev pub payloadOf : List ℕ → Event → List ℕ
-payloadOf s (E.Kind k) = []
-payloadOf s E.NoMoreAux = []
-payloadOf s (E.Codestream a n) = part s a n
-payloadOf s (E.AuxStart t b e) = []
-payloadOf s (E.AuxData t a n) = part s a n
-payloadOf s (E.AuxEnd t) = []
+payloadOf s e = bytesAt s (payload e)

@@ -32,7 +32,7 @@ pub enum JxlpIndexState {
     JxlpFinished,
 }
 
-// Why a parser refuses. The number of each in the paper is `number` of specs/Record.antt.
+// Why a parser refuses. The number of each in the paper is `why` of specs/Record.antt.
 pub enum Refusal {
     InvalidBox,
     ValidationFailed,

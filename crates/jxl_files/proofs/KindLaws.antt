@@ -9,7 +9,7 @@ use lib.Dec.{ltb, leb, eqb}
 use lib.ListN.{length, drop}
 use borrow.Author.Tests.{ltb-true, ltb-false, eqb-true, eqb-false}
 use Rattle.jxl_container.specs.Bytes.{if, be32}
-use Rattle.jxl_container.specs.Record.{at, kindIn, kindOf, fresh, under, less, toEnd, impossible, isRefused}
+use Rattle.jxl_container.specs.Record.{Why, at, kindIn, kindOf, fresh, under, less, toEnd, impossible, isRefused}
 use Rattle.jxl_container.specs.Header.{Header, short, bad, box, headerOf}
 use Rattle.jxl_container.specs.Signature.{signatureOf}
 use Rattle.jxl_container.specs.Types.{jxlc, jxlp, brob, reserved}
@@ -288,7 +288,7 @@ calm-signature j G.TooShort = tt
 calm-signature j G.Neither = tt
 
 -- a state that is not calm has a kind that stays
-refusal-in : (d : DetectState) (j : JxlpIndexState) (s : List ℕ) {n : ℕ} {q : ContainerParser} {c : ℕ} → stateStep d j s ≡ refuses n q c → kindOf q ≡ kindIn d
+refusal-in : (d : DetectState) (j : JxlpIndexState) (s : List ℕ) {w : Why} {q : ContainerParser} {c : ℕ} → stateStep d j s ≡ refuses w q c → kindOf q ≡ kindIn d
 refusal-in S.WaitingSignature j s e = absurd (rw e at (calm-signature j (signatureOf s)))
 refusal-in S.WaitingBoxHeader j s {q = q} e = kind-is (q .state) (rw e at (stays-state K.Container S.WaitingBoxHeader j s refl))
 refusal-in (S.WaitingJxlpIndex l) j s {q = q} e = kind-is (q .state) (rw e at (stays-state K.Container (S.WaitingJxlpIndex l) j s refl))

@@ -1,5 +1,6 @@
 pub mod Never
 pub mod MoreInput
+pub mod Moving
 pub mod Cut
 pub mod Sound
 pub mod Lawful

@@ -10,7 +10,7 @@ use lib.ListN.{length, drop, length-drop}
 use lib.Seq.{drop-drop, drop-length}
 use borrow.Author.Tests.{ne-eqb, ltb-true, ltb-false, leb-true, leb-false, eqb-true, eqb-false}
 use Rattle.jxl_container.specs.Bytes.{if, be32}
-use Rattle.jxl_container.specs.Record.{number, at, under, less, toEnd, overIndex, impossibleIn, impossible, refusedIn, isRefused}
+use Rattle.jxl_container.specs.Record.{why, at, under, less, toEnd, overIndex, impossibleIn, impossible, refusedIn, isRefused}
 use Rattle.jxl_container.specs.Header.{Header, short, bad, box, headerOf}
 use Rattle.jxl_container.specs.Signature.{signatureOf}
 use Rattle.jxl_container.specs.Types.{jxlc, jxlp, brob, reserved}
@@ -53,7 +53,7 @@ restIn turns (S.WaitingJxlpIndex l) j at s = indexed (awaited j) l at s (boxes t
 restIn turns (S.WaitingInnerType l) j at s = inner l at s (boxes turns (sofar j))
 restIn turns (S.InAuxBox t l) j at s = aux t l at s (boxes turns (sofar j))
 restIn turns (S.InCodestream k l pending) j at s = code pending l at s (boxes turns (sofar j))
-restIn turns (S.Refused k r) j at s = ends (refused (number r)) at
+restIn turns (S.Refused k r) j at s = ends (refused (why r)) at
 
 -- the listing of all the bytes that are still to come
 abbrev pub rest : ℕ → ContainerParser → ℕ → List ℕ → Listing
@@ -63,7 +63,7 @@ rest turns p at s = restIn turns (p .state) (p .jxlp) at s
 abbrev Lists : ℕ → List ℕ → Listing → Told → Type 0
 Lists a s l (shows e q c) = (m : ℕ) × (length s ≤ c + m) × (impossible q ≡ false) × (l ≡ then (shifted a e) (rest m q (a + c) (drop c s)))
 Lists a s l (wants q c) = l ≡ ends want (a + c)
-Lists a s l (refuses n q c) = l ≡ ends (refused n) (a + c)
+Lists a s l (refuses w q c) = l ≡ ends (refused w) (a + c)
 
 lists-ahead : (k a : ℕ) (s : List ℕ) (l : Listing) (t : Told) → k ≤ length s → Lists (a + k) (drop k s) l t → Lists a s l (ahead k t)
 lists-ahead k a s l (shows e q c) h (m, n, i, d) =

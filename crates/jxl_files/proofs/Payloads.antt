@@ -5,10 +5,10 @@ use Prim.Native.Nat.{ℕ, _^_, _<_}
 use native.Mathlib.Omega.{arith}
 use lib.ListN.{length}
 use Rattle.jxl_container.specs.Record.{fresh}
+use Rattle.jxl_container.specs.Step.{payload}
 use Rattle.jxl_container.specs.declared.parse.Event.{Event}
 use Rattle.jxl_container.specs.declared.parse.Event.the-variants as E
 use Rattle.jxl_cuts.specs.Machine.{Inside}
-use Rattle.jxl_files.specs.Parser.{payload}
 use Rattle.jxl_files.specs.Feeding.{Shown, events, eventsIn, feeding, bytesOf}
 use Rattle.jxl_files.specs.Theorems.{Right, All, JoinerListsTheFile}
 use Rattle.jxl_files.specs.Joiner.{Counted, AllCounted}

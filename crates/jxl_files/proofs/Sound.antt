@@ -1,4 +1,4 @@
--- What an event costs, and that two events of one feed never lie end to end. One law for a step, carried through its rules:
+-- What an event costs, and that two events of one input never join. One law for a step, carried through its rules:
 -- an event pays 3 out of the bytes it consumes and the weight that its state gives up.
 use mathlib.Core.Path.{_≡_, refl, sym, ap, _∙_}
 use mathlib.Core.Bool.{Bool, true, false}
@@ -10,13 +10,13 @@ use lib.Dec.{ltb, leb, eqb}
 use lib.ListN.{length, drop, length-drop, drop-of-length-le}
 use borrow.Author.Tests.{ltb-true, ltb-false, leb-true, leb-false, eqb-true, eqb-false, ne-eqb}
 use Rattle.jxl_container.specs.Bytes.{if, be32}
-use Rattle.jxl_container.specs.Record.{at, under, less, toEnd, impossible, isRefused}
+use Rattle.jxl_container.specs.Record.{Why, at, under, less, toEnd, impossible, isRefused}
 use Rattle.jxl_container.specs.Header.{Header, short, bad, box, headerOf}
 use Rattle.jxl_container.specs.Signature.{signatureOf}
 use Rattle.jxl_container.specs.Types.{jxlc, jxlp, brob, reserved}
 use Rattle.jxl_container.specs.Step.{Told, shows, wants, refuses, shifted, ahead, codePart, codeStep, auxPart, row, indexStep, innerStep, jxlcStep, jxlpNext, boxStep, headerStep, signatureStep, awaited, stateStep, stepOf}
 use Rattle.jxl_container.proofs.Step.{code-wants, code-pending, code-shows, index-wants, index-right, index-wrong, inner-wants, inner-reserved, inner-shows, box-jxlc, box-jxlp, box-brob, box-aux, step-empty, step-state, step-impossible}
-use Rattle.jxl_container.proofs.Laws.{every-step, stays}
+use Rattle.jxl_container.proofs.Laws.{stays}
 use Rattle.jxl_container.proofs.Header.{header-fits}
 use Rattle.jxl_container.specs.declared.consts.Signature.{Signature}
 use Rattle.jxl_container.specs.declared.consts.Signature.the-variants as G
@@ -31,7 +31,10 @@ use Rattle.jxl_container.specs.declared.DetectState.the-variants as S
 use Rattle.jxl_container.specs.declared.ContainerParser.{ContainerParser}
 use Rattle.jxl_container.specs.declared.parse.Event.{Event}
 use Rattle.jxl_container.specs.declared.parse.Event.the-variants as E
-use Rattle.jxl_files.specs.Joined.{before}
+use Rattle.jxl_cuts.specs.Lawful.{Paid}
+use Rattle.jxl_cuts.proofs.Ahead.{paid-ahead, paid-more}
+use Rattle.jxl_files.specs.Joined.{codeAt, joins}
+use Rattle.jxl_files.specs.Parser.{parser}
 use Rattle.jxl_files.proofs.Never.{never}
 
 -- what a state can still give up, in thirds of an event
@@ -72,11 +75,15 @@ Loose n (E.AuxStart t b e) q c = Unit {0}
 Loose n (E.AuxData t x l) q c = (n ≤ c) ⊎ (q .state ≡ S.InAuxBox t (Bytes 0))
 Loose n (E.AuxEnd t) q c = Unit {0}
 
--- what a step tells of n bytes, in a state of weight w
+-- what a step tells of n bytes
+abbrev Over : ℕ → Told → Type 0
+Over n (shows e q c) = Loose n e q c
+Over n (wants q c) = Unit {0}
+Over n (refuses r q c) = Unit {0}
+
+-- in a state of weight w
 abbrev Sound : ℕ → ℕ → Told → Type 0
-Sound w n (shows e q c) = (3 ≤ n + w) × ((n ≤ c) ⊎ (3 + weight q ≤ c + w)) × Loose n e q c
-Sound w n (wants q c) = Unit {0}
-Sound w n (refuses r q c) = Unit {0}
+Sound w n t = Paid parser weight w n t × Over n t
 
 loose-ahead : (k n : ℕ) (e : Event) (q : ContainerParser) (c : ℕ) → k ≤ n → Loose (n - k) e q c → Loose n (shifted k e) q (k + c)
 loose-ahead k n (E.Kind x) q c h i = tt
@@ -88,32 +95,29 @@ loose-ahead k n (E.AuxData t x l) q c h (inl d) = inl (omega arith)
 loose-ahead k n (E.AuxData t x l) q c h (inr d) = inr d
 loose-ahead k n (E.AuxEnd t) q c h i = tt
 
+over-ahead : (k : ℕ) (s : List ℕ) (t : Told) → k ≤ length s → Over (length (drop k s)) t → Over (length s) (ahead k t)
+over-ahead k s (shows e q c) h i = loose-ahead k (length s) e q c h (rw (length-drop k s) at i)
+over-ahead k s (wants q c) h i = tt
+over-ahead k s (refuses r q c) h i = tt
+
 -- behind k bytes a state may weigh k more
 sound-ahead : (k w v : ℕ) (s : List ℕ) (t : Told) → k ≤ length s → w ≤ k + v → Sound w (length (drop k s)) t → Sound v (length s) (ahead k t)
-sound-ahead k w v s (shows e q c) h m (a, inl d, i) =
-    (omega (arith, length-drop k s), inl (omega (arith, length-drop k s)), loose-ahead k (length s) e q c h (rw (length-drop k s) at i))
-sound-ahead k w v s (shows e q c) h m (a, inr d, i) =
-    (omega (arith, length-drop k s), inr (omega arith), loose-ahead k (length s) e q c h (rw (length-drop k s) at i))
-sound-ahead k w v s (wants q c) h m i = tt
-sound-ahead k w v s (refuses r q c) h m i = tt
+sound-ahead k w v s t h m (a, i) = (paid-ahead parser weight k w v s t h m a, over-ahead k s t h i)
 
 sound-more : (w v n : ℕ) (t : Told) → w ≤ v → Sound w n t → Sound v n t
-sound-more w v n (shows e q c) m (a, inl d, i) = (omega arith, inl d, i)
-sound-more w v n (shows e q c) m (a, inr d, i) = (omega arith, inr (omega arith), i)
-sound-more w v n (wants q c) m i = tt
-sound-more w v n (refuses r q c) m i = tt
+sound-more w v n t m (a, i) = (paid-more parser weight w v n t m a, i)
 
 sound-part : (j : JxlpIndexState) (k : BitstreamKind) (l : Left) (n : ℕ) → 0 < n → Sound 3 n (codePart j k l n)
-sound-part j k ToEnd n h = (omega arith, inl (omega arith), (omega arith, inl (omega arith)))
+sound-part j k ToEnd n h = ((omega arith, λ l. absurd (omega arith)), (omega arith, inl (omega arith)))
 sound-part j k (Bytes m) n h = go (leb m n) refl
   where
     go : (t : Bool) → leb m n ≡ t → Sound 3 n (codePart j k (Bytes m) n)
-    go true e = rw e (omega arith, inr (omega arith), (omega arith, inr refl))
-    go false e = rw e (omega arith, inl (omega arith), (omega arith, inl (omega arith)))
+    go true e = rw e ((omega arith, λ l. omega arith), (omega arith, inr refl))
+    go false e = rw e ((omega arith, λ l. absurd (omega arith)), (omega arith, inl (omega arith)))
 
 sound-code : (j : JxlpIndexState) (k : BitstreamKind) (l : Left) (pending : Bool) (s : List ℕ) → Sound (codeWeight pending) (length s) (codeStep j k l pending s)
-sound-code j k l pending [] = rw (code-wants j k l [] pending (omega arith)) tt
-sound-code j k l true (x ∷ s) = rw (code-pending j k l (x ∷ s) (omega arith)) (omega arith, inr (omega arith), tt)
+sound-code j k l pending [] = rw (code-wants j k l [] pending (omega arith)) (tt, tt)
+sound-code j k l true (x ∷ s) = rw (code-pending j k l (x ∷ s) (omega arith)) ((omega arith, λ l. omega arith), tt)
 sound-code j k l false (x ∷ s) = rw (code-shows j k l (x ∷ s) (omega arith)) (sound-part j k l (length (x ∷ s)) (omega arith))
 
 code-weight : (t : Bool) → codeWeight t ≤ 6
@@ -121,7 +125,7 @@ code-weight true = omega arith
 code-weight false = omega arith
 
 sound-aux : (j : JxlpIndexState) (t : ℕ) (l : Left) (n : ℕ) → 0 < n → Sound (auxWeight l) n (auxPart j t l n)
-sound-aux j t ToEnd n h = (omega arith, inl (omega arith), inl (omega arith))
+sound-aux j t ToEnd n h = ((omega arith, λ l. absurd (omega arith)), inl (omega arith))
 sound-aux j t (Bytes m) n h = go (eqb m 0) refl
   where
     -- the payload ends inside the input, or goes on behind it
@@ -130,51 +134,51 @@ sound-aux j t (Bytes m) n h = go (eqb m 0) refl
     size z true e =
         let all : min m n ≡ m = omega (arith, leb-true m n e) in
         let over : m - m ≡ 0 = omega arith in
-        rw (all, over) (omega arith, inr (omega (arith, z)), inr refl)
+        rw (all, over) ((omega (arith, z), λ l. omega (arith, z)), inr refl)
     size z false e =
         let full : min m n ≡ n = omega (arith, leb-false m n e) in
-        rw full (omega arith, inl (omega arith), inl (omega arith))
+        rw full ((omega arith, λ l. absurd (omega arith)), inl (omega arith))
 
     go : (u : Bool) → eqb m 0 ≡ u → Sound (auxWeight (Bytes m)) n (auxPart j t (Bytes m) n)
-    go true e = rw e (omega arith, inr (omega arith), tt)
+    go true e = rw e ((omega arith, λ l. omega arith), tt)
     go false e = rw e (size (eqb-false m 0 e) (leb m n) refl)
 
 sound-index : (i : ℕ) (l : Left) (s : List ℕ) → Sound 2 (length s) (indexStep i l s)
 sound-index i l s = go (ltb (length s) 4) refl (eqb (be32 s 0 % 0x80000000) i) refl
   where
     go : (t : Bool) → ltb (length s) 4 ≡ t → (u : Bool) → eqb (be32 s 0 % 0x80000000) i ≡ u → Sound 2 (length s) (indexStep i l s)
-    go true e u f = rw (index-wants i l s (ltb-true (length s) 4 e)) tt
+    go true e u f = rw (index-wants i l s (ltb-true (length s) 4 e)) (tt, tt)
     go false e true f =
         let h = ltb-false (length s) 4 e in
         let after = codeStep (row (be32 s 0) i) K.Container (less l 4) (toEnd l) (drop 4 s) in
         rw (index-right i l s h (eqb-true (be32 s 0 % 0x80000000) i f))
         (sound-ahead 4 (codeWeight (toEnd l)) 2 s after h (omega (arith, code-weight (toEnd l))) (sound-code (row (be32 s 0) i) K.Container (less l 4) (toEnd l) (drop 4 s)))
-    go false e false f = rw (index-wrong i l s (ltb-false (length s) 4 e) (eqb-false (be32 s 0 % 0x80000000) i f)) tt
+    go false e false f = rw (index-wrong i l s (ltb-false (length s) 4 e) (eqb-false (be32 s 0 % 0x80000000) i f)) (tt, tt)
 
 sound-inner : (j : JxlpIndexState) (l : Left) (s : List ℕ) → Sound 4 (length s) (innerStep j l s)
 sound-inner j l s = go (ltb (length s) 4) refl (reserved (be32 s 0)) refl
   where
     go : (t : Bool) → ltb (length s) 4 ≡ t → (u : Bool) → reserved (be32 s 0) ≡ u → Sound 4 (length s) (innerStep j l s)
-    go true e u f = rw (inner-wants j l s (ltb-true (length s) 4 e)) tt
-    go false e true f = rw (inner-reserved j l s (ltb-false (length s) 4 e) f) tt
-    go false e false f = rw (inner-shows j l s (ltb-false (length s) 4 e) f) (omega arith, inr (omega (arith, aux-weight (less l 4))), tt)
+    go true e u f = rw (inner-wants j l s (ltb-true (length s) 4 e)) (tt, tt)
+    go false e true f = rw (inner-reserved j l s (ltb-false (length s) 4 e) f) (tt, tt)
+    go false e false f = rw (inner-shows j l s (ltb-false (length s) 4 e) f) ((omega arith, λ h. omega (arith, aux-weight (less l 4))), tt)
 
 sound-jxlc : (j : JxlpIndexState) (l : Left) (s : List ℕ) → Sound 8 (length s) (jxlcStep j l s)
 sound-jxlc Initial l s =
     sound-more (codeWeight (toEnd l)) 8 (length s) (codeStep SingleJxlc K.Container l (toEnd l) s) (omega (arith, code-weight (toEnd l))) (sound-code SingleJxlc K.Container l (toEnd l) s)
-sound-jxlc SingleJxlc l s = tt
-sound-jxlc (Jxlp i) l s = tt
-sound-jxlc JxlpFinished l s = tt
+sound-jxlc SingleJxlc l s = (tt, tt)
+sound-jxlc (Jxlp i) l s = (tt, tt)
+sound-jxlc JxlpFinished l s = (tt, tt)
 
 sound-next : (j : JxlpIndexState) (l : Left) (s : List ℕ) → Sound 8 (length s) (jxlpNext j l s)
 sound-next Initial l s = sound-more 2 8 (length s) (indexStep 0 l s) (omega arith) (sound-index 0 l s)
-sound-next SingleJxlc l s = tt
+sound-next SingleJxlc l s = (tt, tt)
 sound-next (Jxlp i) l s = sound-more 2 8 (length s) (indexStep (i + 1) l s) (omega arith) (sound-index (i + 1) l s)
-sound-next JxlpFinished l s = tt
+sound-next JxlpFinished l s = (tt, tt)
 
 -- a rule, or a refusal
-sound-if : (w n : ℕ) (u : Bool) (r : ℕ) (p : ContainerParser) (c : ℕ) (t : Told) → Sound w n t → Sound w n (if u (refuses r p c) t)
-sound-if w n true r p c t i = tt
+sound-if : (w n : ℕ) (u : Bool) (r : Why) (p : ContainerParser) (c : ℕ) (t : Told) → Sound w n t → Sound w n (if u (refuses r p c) t)
+sound-if w n true r p c t i = (tt, tt)
 sound-if w n false r p c t i = i
 
 sound-box : (j : JxlpIndexState) (t : ℕ) (l : Left) (s : List ℕ) → Sound 8 (length s) (boxStep j t l s)
@@ -188,20 +192,20 @@ sound-box j t l s = go (eqb t jxlc) refl (eqb t jxlp) refl (eqb t brob) refl
         rw (box-brob j t l s (eqb-true t brob g))
         (sound-if 8 (length s) (under 4 l) _ _ _ (innerStep j l s) (sound-more 4 8 (length s) (innerStep j l s) (omega arith) (sound-inner j l s)))
     go false e false f false g =
-        rw (box-aux j t l s (eqb-false t jxlc e) (eqb-false t jxlp f) (eqb-false t brob g)) (omega arith, inr (omega (arith, aux-weight l)), tt)
+        rw (box-aux j t l s (eqb-false t jxlc e) (eqb-false t jxlp f) (eqb-false t brob g)) ((omega arith, λ h. omega (arith, aux-weight l)), tt)
 
 sound-header : (j : JxlpIndexState) (s : List ℕ) (h : Header) → headerOf s ≡ h → Sound 0 (length s) (headerStep j s h)
-sound-header j s short e = tt
-sound-header j s (bad r) e = tt
+sound-header j s short e = (tt, tt)
+sound-header j s (bad r) e = (tt, tt)
 sound-header j s (box t l n) e =
     let fits = header-fits s e in
     sound-ahead n 8 0 s (boxStep j t l (drop n s)) (fits .1) (omega arith) (sound-box j t l (drop n s))
 
 sound-signature : (j : JxlpIndexState) (s : List ℕ) (g : Signature) → signatureOf s ≡ g → Sound 9 (length s) (signatureStep j g)
-sound-signature j s G.Bare e = (omega arith, inr (omega arith), tt)
-sound-signature j s G.Container e = (omega arith, inr (omega arith), tt)
-sound-signature j s G.TooShort e = tt
-sound-signature j s G.Neither e = (omega arith, inr (omega arith), tt)
+sound-signature j s G.Bare e = ((omega arith, λ l. omega arith), tt)
+sound-signature j s G.Container e = ((omega arith, λ l. omega arith), tt)
+sound-signature j s G.TooShort e = (tt, tt)
+sound-signature j s G.Neither e = ((omega arith, λ l. omega arith), tt)
 
 sound-state : (d : DetectState) (j : JxlpIndexState) (s : List ℕ) → 0 < length s → Sound (weightIn d) (length s) (stateStep d j s)
 sound-state S.WaitingSignature j s h = sound-signature j s (signatureOf s) refl
@@ -210,41 +214,25 @@ sound-state (S.WaitingJxlpIndex l) j s h = sound-index (awaited j) l s
 sound-state (S.WaitingInnerType l) j s h = sound-inner j l s
 sound-state (S.InAuxBox t l) j s h = sound-aux j t l (length s) h
 sound-state (S.InCodestream k l pending) j s h = sound-code j k l pending s
-sound-state (S.Refused k r) j s h = tt
+sound-state (S.Refused k r) j s h = (tt, tt)
 
 -- every record and every input
-sound : (p : ContainerParser) (s : List ℕ) → Sound (weight p) (length s) (stepOf p s)
+pub sound : (p : ContainerParser) (s : List ℕ) → Sound (weight p) (length s) (stepOf p s)
 sound p s = go s (isRefused p) refl (impossible p) refl
   where
     go : (s : List ℕ) (t : Bool) → isRefused p ≡ t → (u : Bool) → impossible p ≡ u → Sound (weight p) (length s) (stepOf p s)
-    go [] true r u i = rw (stays p r .1 []) tt
-    go [] false r u i = rw (step-empty p r) tt
-    go (x ∷ s) t r true i = rw (step-impossible p (x ∷ s) (omega arith) i) tt
+    go [] true r u i = rw (stays p r .1 []) (tt, tt)
+    go [] false r u i = rw (step-empty p r) (tt, tt)
+    go (x ∷ s) t r true i = rw (step-impossible p (x ∷ s) (omega arith) i) (tt, tt)
     go (x ∷ s) t r false i = rw (step-state p (x ∷ s) (omega arith) i) (sound-state (p .state) (p .jxlp) (x ∷ s) (omega arith))
 
 -- no event comes of an empty input
-pub none-of-none : (p : ContainerParser) {e : Event} {q : ContainerParser} {c : ℕ} → stepOf p [] ≡ shows e q c → ⊥
+none-of-none : (p : ContainerParser) {e : Event} {q : ContainerParser} {c : ℕ} → stepOf p [] ≡ shows e q c → ⊥
 none-of-none p h = go (isRefused p) refl
   where
     go : (t : Bool) → isRefused p ≡ t → ⊥
     go true r = never (cc (stays p r .1 []))
     go false r = never (cc (step-empty p r))
-
--- a parser that shows something of some input is not refused
-pub shows-open : (p : ContainerParser) (s : List ℕ) {e : Event} {q : ContainerParser} {c : ℕ} → stepOf p s ≡ shows e q c → isRefused p ≡ false
-shows-open p s h = go (isRefused p) refl
-  where
-    go : (t : Bool) → isRefused p ≡ t → isRefused p ≡ false
-    go true r = never (cc (stays p r .1 s))
-    go false r = r
-
--- what an event costs
-pub consumes : (p : ContainerParser) (s : List ℕ) {e : Event} {q : ContainerParser} {c : ℕ} → stepOf p s ≡ shows e q c → c ≤ length s
-consumes p s h = (rw h at (every-step p s)) .0
-
-pub costs : (p : ContainerParser) (s : List ℕ) {e : Event} {q : ContainerParser} {c : ℕ} → stepOf p s ≡ shows e q c
-    → (3 ≤ length s + weight p) × ((length s ≤ c) ⊎ (3 + weight q ≤ c + weight p))
-costs p s h = let i = rw h at (sound p s) in (i .0, i .1)
 
 pub weight-most : (p : ContainerParser) → weight p ≤ 9
 weight-most p = go (p .state)
@@ -307,19 +295,18 @@ end-step j t (x ∷ s) {f} h = go (impossible (at (S.InAuxBox t (Bytes 0)) j)) r
     go true i = cc (step-impossible (at (S.InAuxBox t (Bytes 0)) j) (x ∷ s) (omega arith) i)
     go false i = cc (step-state (at (S.InAuxBox t (Bytes 0)) j) (x ∷ s) (omega arith) i)
 
--- two events of one input never lie end to end
-module _ (a : ℕ) (es : List Event) (q : ContainerParser) (c : ℕ) (s : List ℕ) where
-  code-apart : (x l : ℕ) → x + l ≡ c → (f : Event) → FarEvent f
-      → before (E.Codestream (a + x) l) (shifted (a + c) f ∷ es) ≡ E.Codestream (a + x) l ∷ shifted (a + c) f ∷ es
+-- two events of one input never join
+module _ (q : ContainerParser) (c : ℕ) (s : List ℕ) where
+  code-apart : (x l : ℕ) → x + l ≡ c → (f : Event) → FarEvent f → codeAt (x + l) (shifted c f) ≡ false
   code-apart x l e (E.Kind k) h = refl
   code-apart x l e E.NoMoreAux h = refl
-  code-apart x l e (E.Codestream y m) h = rw (ne-eqb (a + x + l) (a + c + y) (λ z. omega arith))
+  code-apart x l e (E.Codestream y m) h = ne-eqb (x + l) (c + y) (λ z. omega arith)
   code-apart x l e (E.AuxStart t b i) h = refl
   code-apart x l e (E.AuxData t y m) h = refl
   code-apart x l e (E.AuxEnd t) h = refl
 
   loose-apart : (e : Event) → Loose (length s) e q c → {f : Event} {r : ContainerParser} {d : ℕ} → stepOf q (drop c s) ≡ shows f r d
-      → before (shifted a e) (shifted (a + c) f ∷ es) ≡ shifted a e ∷ shifted (a + c) f ∷ es
+      → joins e (shifted c f) ≡ false
   loose-apart (E.Kind k) i h = refl
   loose-apart E.NoMoreAux i h = refl
   loose-apart (E.Codestream x l) (e, inl n) h = absurd (none-of-none q (rw (drop-of-length-le s n) at h))
@@ -336,5 +323,5 @@ module _ (a : ℕ) (es : List Event) (q : ContainerParser) (c : ℕ) (s : List �
   loose-apart (E.AuxEnd t) i h = refl
 
 pub apart : (p : ContainerParser) (s : List ℕ) {e f : Event} {q r : ContainerParser} {c d : ℕ} → stepOf p s ≡ shows e q c → stepOf q (drop c s) ≡ shows f r d
-    → (a : ℕ) (es : List Event) → before (shifted a e) (shifted (a + c) f ∷ es) ≡ shifted a e ∷ shifted (a + c) f ∷ es
-apart p s {e} {q = q} {c = c} h k a es = loose-apart a es q c s e ((rw h at (sound p s)) .2) k
+    → joins e (shifted c f) ≡ false
+apart p s {e} {q = q} {c = c} h k = loose-apart q c s e ((rw h at (sound p s)) .1) k

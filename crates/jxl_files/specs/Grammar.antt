@@ -1,6 +1,6 @@
 -- What a whole file lists: document 01, "Boxes", as a grammar of bytes. It knows nothing of steps, packets or a parser's state;
 -- with a step it shares the header, the signature, and the reach of a payload and the numbers of the refusals (Record's `under`,
--- `less`, `toEnd`, `number`).
+-- `less`, `toEnd`, `why`).
 -- Each definition is one thing in a file that stands at `at`, with the bytes `s` from there to the end; `more` lists what follows it.
 -- A choice is an `elim`, which computes one branch alone; an `if` would compute both, and with them the boxes to the end twice.
 use mathlib.Core.Bool.{Bool, true, false}
@@ -12,7 +12,7 @@ use Rattle.jxl_cuts.specs.Feeding.{Stop as Stops}
 pub use Rattle.jxl_cuts.specs.Feeding.{want, refused}
 use Rattle.jxl_container.specs.Bytes.{be32}
 use Rattle.jxl_container.specs.Signature.{signatureOf}
-use Rattle.jxl_container.specs.Record.{number, under, less, toEnd}
+use Rattle.jxl_container.specs.Record.{Why, refusal, why, under, less, toEnd}
 use Rattle.jxl_container.specs.Types.{jxlc, jxlp, brob, reserved}
 use Rattle.jxl_container.specs.Header.{Header, short, bad, box, headerOf}
 use Rattle.jxl_container.specs.declared.consts.Signature.{Signature}
@@ -24,9 +24,9 @@ use Rattle.jxl_container.specs.declared.Left.the-variants.{ToEnd, Bytes}
 use Rattle.jxl_container.specs.declared.parse.Event.{Event}
 use Rattle.jxl_container.specs.declared.parse.Event.the-variants as E
 
--- how a listing stops: more bytes are wanted, or a refusal by its number
+-- how a listing stops: more bytes are wanted, or a refusal by its number and what it tells
 abbrev pub Stop : Type 0
-Stop = Stops ℕ
+Stop = Stops Why
 
 -- events with places in the file, the bytes consumed, and the stop
 pub record Listing : Type 0 where
@@ -100,7 +100,7 @@ indexed i l at s next =
       | true ↦ ends want at
       | false ↦ elim (eqb (be32 s 0 % 0x80000000) i) [
         | true ↦ code (toEnd l) (less l 4) (at + 4) (drop 4 s) (next (row (leb 0x80000000 (be32 s 0)) i))
-        | false ↦ ends (refused 1) (at + 4)
+        | false ↦ ends (refused (refusal 1 [])) (at + 4)
       ]
     ]
 
@@ -110,7 +110,7 @@ inner l at s more =
     elim (ltb (length s) 4) [
       | true ↦ ends want at
       | false ↦ elim (reserved (be32 s 0)) [
-        | true ↦ ends (refused 2) (at + 4)
+        | true ↦ ends (refused (refusal 2 [])) (at + 4)
         | false ↦ then (E.AuxStart (be32 s 0) true (toEnd l)) (aux (be32 s 0) (less l 4) (at + 4) (drop 4 s) more)
       ]
     ]
@@ -118,16 +118,16 @@ inner l at s more =
 -- a `jxlc` box: the only codestream box of its file
 abbrev pub jxlcBox : Codestreams → Left → ℕ → List ℕ → Boxes → Listing
 jxlcBox none l at s next = code (toEnd l) l at s (next single)
-jxlcBox single l at s next = ends (refused 1) at
-jxlcBox (upTo i) l at s next = ends (refused 1) at
-jxlcBox whole l at s next = ends (refused 1) at
+jxlcBox single l at s next = ends (refused (refusal 1 [])) at
+jxlcBox (upTo i) l at s next = ends (refused (refusal 1 [])) at
+jxlcBox whole l at s next = ends (refused (refusal 1 [])) at
 
 -- a `jxlp` box: not after a `jxlc` or a last `jxlp`; the index counts up from 0
 abbrev pub jxlpBox : Codestreams → Left → ℕ → List ℕ → Boxes → Listing
 jxlpBox none l at s next = indexed 0 l at s next
-jxlpBox single l at s next = ends (refused 1) at
+jxlpBox single l at s next = ends (refused (refusal 1 [])) at
 jxlpBox (upTo i) l at s next = indexed (i + 1) l at s next
-jxlpBox whole l at s next = ends (refused 1) at
+jxlpBox whole l at s next = ends (refused (refusal 1 [])) at
 
 -- a box of type t, behind its header; a `jxlp` or a `brob` of a payload under 4 is refused
 abbrev pub boxed : Codestreams → ℕ → Left → ℕ → List ℕ → Boxes → Listing
@@ -135,9 +135,9 @@ boxed c t l at s next =
     elim (eqb t jxlc) [
       | true ↦ jxlcBox c l at s next
       | false ↦ elim (eqb t jxlp) [
-        | true ↦ elim (under 4 l) [ true ↦ ends (refused 1) at | false ↦ jxlpBox c l at s next ]
+        | true ↦ elim (under 4 l) [ true ↦ ends (refused (refusal 1 [])) at | false ↦ jxlpBox c l at s next ]
         | false ↦ elim (eqb t brob) [
-          | true ↦ elim (under 4 l) [ true ↦ ends (refused 1) at | false ↦ inner l at s (next c) ]
+          | true ↦ elim (under 4 l) [ true ↦ ends (refused (refusal 1 [])) at | false ↦ inner l at s (next c) ]
           | false ↦ then (E.AuxStart t false (toEnd l)) (aux t l at s (next c))
         ]
       ]
@@ -146,7 +146,7 @@ boxed c t l at s next =
 -- a refusal in the header consumes nothing of it
 abbrev pub headed : Header → Codestreams → ℕ → List ℕ → Boxes → Listing
 headed short c at s next = ends want at
-headed (bad r) c at s next = ends (refused (number r)) at
+headed (bad r) c at s next = ends (refused (why r)) at
 headed (box t l n) c at s next = boxed c t l (at + n) (drop n s) next
 
 -- boxes up to the end; each takes at least 8 bytes, so as many turns as bytes are more than enough

@@ -1,19 +1,10 @@
 -- The container parser as a machine that is fed.
-use Prim.Native.Nat.{ℕ}
-use Rattle.jxl_container.specs.Step.{shifted, stepOf}
+use Rattle.jxl_container.specs.Record.{Why}
+use Rattle.jxl_container.specs.Step.{shifted, stepOf, payload}
 use Rattle.jxl_container.specs.declared.ContainerParser.{ContainerParser}
 use Rattle.jxl_container.specs.declared.parse.Event.{Event}
-use Rattle.jxl_container.specs.declared.parse.Event.the-variants as E
-use Rattle.jxl_cuts.specs.Machine.{Payload, none, bytes, Machine}
+use Rattle.jxl_cuts.specs.Machine.{Machine}
 use Rattle.jxl_files.specs.Joined.{joins, longer, lengthOf}
-
-abbrev pub payload : Event → Payload
-payload (E.Kind k) = none
-payload E.NoMoreAux = none
-payload (E.Codestream a n) = bytes a n
-payload (E.AuxStart t b e) = none
-payload (E.AuxData t a n) = bytes a n
-payload (E.AuxEnd t) = none
 
 -- at most 15 bytes are left unread; three bytes pay for an event, and a state is lent at most 9
 abbrev pub parser : Machine
@@ -21,7 +12,7 @@ parser =
     record {
       State = ContainerParser;
       Event = Event;
-      Why = ℕ;
+      Why = Why;
       step = stepOf;
       payload = payload;
       shifted = shifted;

@@ -4,7 +4,7 @@ use mathlib.Core.Bool.{false}
 use mathlib.Core.List.{List, [], _∷_}
 use Prim.Native.Nat.{ℕ, _+_, _/_, _<_, _≤_, _^_}
 use lib.ListN.{length}
-use Rattle.jxl_container.specs.Record.{fresh, isRefused, kindOf}
+use Rattle.jxl_container.specs.Record.{Why, fresh, isRefused, kindOf}
 use Rattle.jxl_container.specs.Step.{refuses, stepOf}
 use Rattle.jxl_container.specs.declared.BitstreamKind.{BitstreamKind}
 use Rattle.jxl_container.specs.declared.BitstreamKind.the-variants as K
@@ -107,7 +107,7 @@ KindOfAFile = (xs : List (List ℕ)) → kindOf (feeding fresh 0 xs .next) ≡ k
 
 -- a refusal leaves the kind what it was; from any record, one that no file leads to as well
 abbrev pub RefusalKeepsKind : Type 0
-RefusalKeepsKind = (p : ContainerParser) (s : List ℕ) (n : ℕ) (q : ContainerParser) (c : ℕ) → stepOf p s ≡ refuses n q c → kindOf q ≡ kindOf p
+RefusalKeepsKind = (p : ContainerParser) (s : List ℕ) (w : Why) (q : ContainerParser) (c : ℕ) → stepOf p s ≡ refuses w q c → kindOf q ≡ kindOf p
 
 -- joiner: of events whose ends 64 bits can count, it hands back the joined ones
 abbrev pub JoinerJoins : Type 0

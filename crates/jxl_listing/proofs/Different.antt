@@ -8,12 +8,11 @@ use lib.ListN.{getD}
 use Rattle.jxl_container.specs.Bytes.{if}
 use Rattle.jxl_container.specs.declared.BitstreamKind.{BitstreamKind}
 use Rattle.jxl_container.specs.declared.BitstreamKind.the-variants as K
-use Rattle.jxl_container.specs.declared.Refusal.the-variants.{InvalidBox, ValidationFailed}
 use Rattle.jxl_container.specs.declared.parse.Event.the-variants as E
 use Rattle.jxl_listing.specs.Lines.{kindWord, brobWord, endWord, stopWord, fields, InRange}
 use Rattle.jxl_listing.specs.Theorems.{NoTwoAlike}
 use Rattle.jxl_listing.specs.declared.Stop.{Stop}
-use Rattle.jxl_listing.specs.declared.Stop.the-variants.{Want, Refused}
+use Rattle.jxl_listing.specs.declared.Stop.the-variants.{Want, Refused1, Refused2}
 use Rattle.jxl_listing.specs.declared.Line.{Line}
 use Rattle.jxl_listing.specs.declared.Line.the-variants.{Shown, Stopped}
 use Rattle.jxl_listing.proofs.Values.{value, decimal-value, type-value}
@@ -29,7 +28,7 @@ kindOf w =
     (if (eqb (letter w 0) 99) K.Container K.Invalid))
 
 abbrev stopOf : List ℕ → Stop
-stopOf w = if (eqb (letter w 0) 119) Want (Refused (if (eqb (letter w 7) 49) InvalidBox ValidationFailed))
+stopOf w = if (eqb (letter w 0) 119) Want (if (eqb (letter w 7) 49) Refused1 Refused2)
 
 abbrev field : List (List ℕ) → ℕ → List ℕ
 field fs i = getD fs i []
@@ -70,8 +69,8 @@ end-back false = refl
 
 stop-back : (s : Stop) → stopOf (stopWord s) ≡ s
 stop-back Want = refl
-stop-back (Refused InvalidBox) = refl
-stop-back (Refused ValidationFailed) = refl
+stop-back Refused1 = refl
+stop-back Refused2 = refl
 
 back-fields : (l : Line) → InRange l → back (fields l) ≡ l
 back-fields (Shown (E.Kind k)) h = cc (kind-back k)

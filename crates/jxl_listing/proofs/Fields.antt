@@ -9,12 +9,11 @@ use borrow.Author.Tests.{lt-ltb, ltb-true}
 use Rattle.jxl_container.specs.Bytes.{if, and}
 use Rattle.jxl_container.specs.declared.BitstreamKind.{BitstreamKind}
 use Rattle.jxl_container.specs.declared.BitstreamKind.the-variants as K
-use Rattle.jxl_container.specs.declared.Refusal.the-variants.{InvalidBox, ValidationFailed}
 use Rattle.jxl_container.specs.declared.parse.Event.the-variants as E
 use Rattle.jxl_listing.specs.Digits.{glyph, hexDigits, hex8, decimalIn, decimal}
 use Rattle.jxl_listing.specs.Lines.{kindWord, brobWord, endWord, stopWord, fields, rest, text}
 use Rattle.jxl_listing.specs.declared.Stop.{Stop}
-use Rattle.jxl_listing.specs.declared.Stop.the-variants.{Want, Refused}
+use Rattle.jxl_listing.specs.declared.Stop.the-variants.{Want, Refused1, Refused2}
 use Rattle.jxl_listing.specs.declared.Line.{Line}
 use Rattle.jxl_listing.specs.declared.Line.the-variants.{Shown, Stopped}
 
@@ -86,8 +85,8 @@ end-clean false = refl
 
 stop-clean : (s : Stop) → clean (stopWord s) ≡ true
 stop-clean Want = refl
-stop-clean (Refused InvalidBox) = refl
-stop-clean (Refused ValidationFailed) = refl
+stop-clean Refused1 = refl
+stop-clean Refused2 = refl
 
 fields-clean : (l : Line) → allClean (fields l) ≡ true
 fields-clean (Shown (E.Kind k)) = both (kind-clean k) refl

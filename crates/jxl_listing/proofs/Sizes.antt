@@ -5,12 +5,11 @@ use native.Mathlib.Omega.{arith}
 use lib.ListN.{length, length-append}
 use Rattle.jxl_container.specs.declared.BitstreamKind.{BitstreamKind}
 use Rattle.jxl_container.specs.declared.BitstreamKind.the-variants as K
-use Rattle.jxl_container.specs.declared.Refusal.the-variants.{InvalidBox, ValidationFailed}
 use Rattle.jxl_container.specs.declared.parse.Event.the-variants as E
 use Rattle.jxl_listing.specs.Lines.{kindWord, brobWord, endWord, stopWord}
 use Rattle.jxl_listing.specs.Theorems.{MostBytes, LeastBytes}
 use Rattle.jxl_listing.specs.declared.Stop.{Stop}
-use Rattle.jxl_listing.specs.declared.Stop.the-variants.{Want, Refused}
+use Rattle.jxl_listing.specs.declared.Stop.the-variants.{Want, Refused1, Refused2}
 use Rattle.jxl_listing.specs.declared.Line.the-variants.{Shown, Stopped}
 use Rattle.jxl_listing.proofs.Numbers.{decimal-most, type-length}
 
@@ -36,8 +35,8 @@ end-most false = omega arith
 
 stop-most : (s : Stop) → length (stopWord s) ≤ 8
 stop-most Want = omega arith
-stop-most (Refused InvalidBox) = omega arith
-stop-most (Refused ValidationFailed) = omega arith
+stop-most Refused1 = omega arith
+stop-most Refused2 = omega arith
 
 pub most-bytes : MostBytes
 most-bytes (Shown (E.Kind k)) h = simp length-append (omega (arith, kind-most k))

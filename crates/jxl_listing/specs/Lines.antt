@@ -2,14 +2,16 @@
 use mathlib.Core.Bool.{Bool, true, false}
 use mathlib.Core.List.{List, [], _∷_, _++_}
 use Prim.Native.Nat.{ℕ, _^_, _<_}
+use lib.Dec.{eqb}
+use Rattle.jxl_container.specs.Bytes.{if}
+use Rattle.jxl_container.specs.Record.{Why, refusal}
 use Rattle.jxl_container.specs.declared.BitstreamKind.{BitstreamKind}
 use Rattle.jxl_container.specs.declared.BitstreamKind.the-variants as K
-use Rattle.jxl_container.specs.declared.Refusal.the-variants.{InvalidBox, ValidationFailed}
 use Rattle.jxl_container.specs.declared.parse.Event.{Event}
 use Rattle.jxl_container.specs.declared.parse.Event.the-variants as E
 use Rattle.jxl_listing.specs.Digits.{hex8, decimal}
 use Rattle.jxl_listing.specs.declared.Stop.{Stop}
-use Rattle.jxl_listing.specs.declared.Stop.the-variants.{Want, Refused}
+use Rattle.jxl_listing.specs.declared.Stop.the-variants.{Want, Refused1, Refused2}
 use Rattle.jxl_listing.specs.declared.Line.{Line}
 use Rattle.jxl_listing.specs.declared.Line.the-variants.{Shown, Stopped}
 
@@ -61,8 +63,12 @@ endWord false = 98 ∷ 111 ∷ 117 ∷ 110 ∷ 100 ∷ 101 ∷ 100 ∷ []
 -- `want`, `refused1` or `refused2`
 abbrev pub stopWord : Stop → List ℕ
 stopWord Want = 119 ∷ 97 ∷ 110 ∷ 116 ∷ []
-stopWord (Refused InvalidBox) = 114 ∷ 101 ∷ 102 ∷ 117 ∷ 115 ∷ 101 ∷ 100 ∷ 49 ∷ []
-stopWord (Refused ValidationFailed) = 114 ∷ 101 ∷ 102 ∷ 117 ∷ 115 ∷ 101 ∷ 100 ∷ 50 ∷ []
+stopWord Refused1 = 114 ∷ 101 ∷ 102 ∷ 117 ∷ 115 ∷ 101 ∷ 100 ∷ 49 ∷ []
+stopWord Refused2 = 114 ∷ 101 ∷ 102 ∷ 117 ∷ 115 ∷ 101 ∷ 100 ∷ 50 ∷ []
+
+-- what is printed of a refusal, by its number
+abbrev pub printed : Why → Stop
+printed (refusal n told) = if (eqb n 1) Refused1 Refused2
 
 -- the fields of an event's line
 abbrev pub eventFields : Event → List (List ℕ)

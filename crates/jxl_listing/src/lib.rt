@@ -5,16 +5,30 @@ use jxl_container::parse::Event;
 ghost use mathlib.Core.Path.{_≡_};
 ghost use Prim.Native.Nat.{_≤_};
 ghost use lib.ListN.{length};
-ghost use Rattle.jxl_listing.specs.Lines.{text};
+ghost use Rattle.jxl_container.specs.Record.{why};
+ghost use Rattle.jxl_listing.specs.Lines.{printed, text};
 ghost use Rattle.jxl_listing.specs.Putting.{leaves, putOf, Starts};
 
 mod field;
 mod words;
 
-// Why a listing ends: the file ends there, or it is refused.
+// Why a listing ends, as it is printed: more is wanted, or a refusal by its number in the paper.
 pub enum Stop {
     Want,
-    Refused(Refusal),
+    Refused1,
+    Refused2,
+}
+
+impl Stop {
+    // What is printed of a refusal.
+    pub fn refused(refusal: Refusal) -> Stop
+        ensures { λ r. ⌜ r ≡ printed (why refusal) ⌝ }
+    {
+        match refusal {
+            Refusal::InvalidBox => Stop::Refused1,
+            Refusal::ValidationFailed => Stop::Refused2,
+        }
+    }
 }
 
 // One record of the listing: a joined event with its place in the file, or the stop with the bytes consumed.

@@ -2,7 +2,6 @@
 use crate::Stop;
 use crate::field;
 use jxl_container::BitstreamKind;
-use jxl_container::Refusal;
 ghost use mathlib.Core.Path.{_≡_};
 ghost use mathlib.Core.List.{_∷_};
 ghost use Prim.Native.Nat.{_+_, _≤_};
@@ -50,18 +49,6 @@ pub(crate) fn put_end(out: &mut [u8], at: usize, to_end: bool) -> usize
     }
 }
 
-// The number of a refusal.
-fn put_refusal(out: &mut [u8], at: usize, refusal: Refusal) -> usize
-    requires { ⌜ at + 9 ≤ length (now out) ⌝ }
-    ensures { λ r. ⌜ Behind (now (out .entry)) at (9 ∷ stopWord (Stop.Refused refusal)) (now (out .exit)) r ⌝ }
-    ensures { λ r. ⌜ r ≤ at + 9 ⌝ }
-{
-    match refusal {
-        Refusal::InvalidBox => field::put_word(out, at, b"refused1"),
-        Refusal::ValidationFailed => field::put_word(out, at, b"refused2"),
-    }
-}
-
 // Why the listing ends.
 pub(crate) fn put_stop(out: &mut [u8], at: usize, stop: Stop) -> usize
     requires { ⌜ at + 9 ≤ length (now out) ⌝ }
@@ -70,6 +57,7 @@ pub(crate) fn put_stop(out: &mut [u8], at: usize, stop: Stop) -> usize
 {
     match stop {
         Stop::Want => field::put_word(out, at, b"want"),
-        Stop::Refused(refusal) => put_refusal(out, at, refusal),
+        Stop::Refused1 => field::put_word(out, at, b"refused1"),
+        Stop::Refused2 => field::put_word(out, at, b"refused2"),
     }
 }

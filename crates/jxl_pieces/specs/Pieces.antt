@@ -4,6 +4,7 @@ use mathlib.Core.Bool.{true, false}
 use mathlib.Core.List.{List, [], _∷_, _++_}
 use Prim.Native.Nat.{ℕ, _-_, _^_}
 use lib.Ieee.{binary32, ofBits}
+use Rattle.jxl_container.specs.Record.{refusal}
 use Rattle.jxl_container.specs.Signature.{signatureOf, containerSig}
 use Rattle.jxl_container.specs.Header.{headerOf, extended}
 use Rattle.jxl_container.specs.declared.BitstreamKind.the-variants as K
@@ -72,15 +73,15 @@ table =
     ∷ lists (S (header 8 jxlc)) (says (E.Kind K.Container ∷ []) 20 want)
     ∷ lists (S (header 8 jxlc ++ (0 ∷ []))) (says (E.Kind K.Container ∷ E.Codestream 20 0 ∷ []) 20 want)
     -- S, 00 00 00 07 Exif: refusal 1, 12 consumed. Size 8: AUX_START
-    ∷ lists (S (header 7 exif)) (says (E.Kind K.Container ∷ []) 12 (refused 1))
+    ∷ lists (S (header 7 exif)) (says (E.Kind K.Container ∷ []) 12 (refused (refusal 1 [])))
     ∷ lists (S (header 8 exif)) (says (E.Kind K.Container ∷ E.AuxStart exifType false false ∷ []) 20 want)
     -- S, jxlp of size 11: refusal 1, 20 consumed. Size 12, first index 1: refusal 1, 24 consumed. Index 80 00 00 00: accepted, last
-    ∷ lists (S (header 11 jxlp)) (says (E.Kind K.Container ∷ []) 20 (refused 1))
-    ∷ lists (S (header 12 jxlp ++ (0 ∷ 0 ∷ 0 ∷ 1 ∷ []))) (says (E.Kind K.Container ∷ []) 24 (refused 1))
+    ∷ lists (S (header 11 jxlp)) (says (E.Kind K.Container ∷ []) 20 (refused (refusal 1 [])))
+    ∷ lists (S (header 12 jxlp ++ (0 ∷ 0 ∷ 0 ∷ 1 ∷ []))) (says (E.Kind K.Container ∷ []) 24 (refused (refusal 1 [])))
     ∷ lists (S (header 12 jxlp ++ (0x80 ∷ 0 ∷ 0 ∷ 0 ∷ []))) (says (E.Kind K.Container ∷ []) 24 want)
-    ∷ lists (S (header 12 jxlp ++ (0x80 ∷ 0 ∷ 0 ∷ 0 ∷ header 12 jxlp))) (says (E.Kind K.Container ∷ E.Codestream 24 0 ∷ []) 32 (refused 1))
+    ∷ lists (S (header 12 jxlp ++ (0x80 ∷ 0 ∷ 0 ∷ 0 ∷ header 12 jxlp))) (says (E.Kind K.Container ∷ E.Codestream 24 0 ∷ []) 32 (refused (refusal 1 [])))
     -- brob of size 12 with jxlc inside: refusal 2, 24 consumed. With Exif: AUX_START
-    ∷ lists (S (header 12 brob ++ jxlc)) (says (E.Kind K.Container ∷ []) 24 (refused 2))
+    ∷ lists (S (header 12 brob ++ jxlc)) (says (E.Kind K.Container ∷ []) 24 (refused (refusal 2 [])))
     ∷ lists (S (header 12 brob ++ exif)) (says (E.Kind K.Container ∷ E.AuxStart exifType true false ∷ []) 24 want)
     -- byte 32 hex, U32 of 1, 2 bits, 3 + 4 bits, 19 + 8 bits: 15
     ∷ readsU32 (0x32 ∷ []) (Constant 1 ∷ BitsOffset 0 2 ∷ BitsOffset 3 4 ∷ BitsOffset 19 8 ∷ []) 15 6

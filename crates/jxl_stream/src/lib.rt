@@ -164,7 +164,7 @@ fn follow(joiner: Joiner, end: End, consumed: usize, out: &mut [u8]) -> Next {
 fn follow_stop(joiner: Joiner, stop: Stop, consumed: usize, out: &mut [u8]) -> Next {
     match stop {
         Stop::Want => Next::Read,
-        Stop::Refused(_) => {
+        Stop::Refused1 | Stop::Refused2 => {
             write_stop(joiner, out, stop, consumed);
             Next::Nothing
         }

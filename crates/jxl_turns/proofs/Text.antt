@@ -6,12 +6,10 @@ use native.Mathlib.Omega.{arith}
 use lib.ListN.{length, take, drop, length-append, length-drop}
 use lib.Seq.{take-all, drop-drop}
 use Rattle.jxl_container.specs.Laws.{Inside}
-use Rattle.jxl_container.specs.Record.{fresh, number}
+use Rattle.jxl_container.specs.Record.{Why, fresh}
 use Rattle.jxl_container.specs.Step.{Told, shows, wants, refuses, shifted, stepOf, told}
 use Rattle.jxl_container.proofs.Laws.{every-step}
 use Rattle.jxl_container.specs.declared.ContainerParser.{ContainerParser}
-use Rattle.jxl_container.specs.declared.Refusal.{Refusal}
-use Rattle.jxl_container.specs.declared.Refusal.the-variants.{InvalidBox, ValidationFailed}
 use Rattle.jxl_container.specs.declared.parse.Event.{Event}
 use Rattle.jxl_container.specs.declared.parse.Event.the-variants as E
 use Rattle.jxl_container.specs.declared.parse.Step.{Step}
@@ -22,17 +20,13 @@ use Rattle.jxl_files.specs.Theorems.{listing}
 use Rattle.jxl_files.specs.Feeding.{Takes, more, waits, ends}
 use Rattle.jxl_files.proofs.Taking.{takes, take-is}
 use Rattle.jxl_files.proofs.Theorems.{every-file, whole-feed}
-use Rattle.jxl_listing.specs.Lines.{text}
+use Rattle.jxl_listing.specs.Lines.{printed, text}
 use Rattle.jxl_listing.specs.declared.Line.the-variants as L
 use Rattle.jxl_listing.specs.declared.Stop.{Stop}
 use Rattle.jxl_listing.specs.declared.Stop.the-variants as S
-use Rattle.jxl_turns.specs.Listed.{named, stopOf, texts, listingText, fileText, nextIn, nextOf, placeOf}
+use Rattle.jxl_turns.specs.Listed.{stopOf, texts, listingText, fileText, nextIn, nextOf, placeOf}
 use Rattle.jxl_turns.specs.declared.Following.{Following}
 use Rattle.jxl_turns.specs.declared.Following.the-variants as N
-
-pub named-number : (r : Refusal) → named (number r) ≡ r
-named-number InvalidBox = refl
-named-number ValidationFailed = refl
 
 -- a payload's place lies inside the input too
 inside-place : (e : Event) (n : ℕ) → Inside e n → placeOf e ≤ n
@@ -56,7 +50,7 @@ module _ (p : ContainerParser) (f : List ℕ) (at : ℕ) (h : at ≤ length f) w
   pub wants-fits : {q : ContainerParser} {c : ℕ} → stepOf p (drop at f) ≡ wants q c → at + c ≤ length f
   wants-fits s = omega (arith, (rw s at (every-step p (drop at f))) .0, length-drop at f)
 
-  pub refuses-fits : {q : ContainerParser} {c n : ℕ} → stepOf p (drop at f) ≡ refuses n q c → at + c ≤ length f
+  pub refuses-fits : {q : ContainerParser} {c : ℕ} {w : Why} → stepOf p (drop at f) ≡ refuses w q c → at + c ≤ length f
   refuses-fits s = omega (arith, (rw s at (every-step p (drop at f))) .0, length-drop at f)
 
 -- the text of all that is still to come of the file, from `at` on, and how many events it has
@@ -92,7 +86,7 @@ module _ (p : ContainerParser) (f : List ℕ) (at : ℕ) where
             ap (λ (x : Seen). length (x .shown)) taken ∙ (λ i. suc (count (parser i) (place i) f)),
           )
       go (wants r c) s n = absurd (let z : _≡_ {A = ℕ} 0 1 = cc in omega arith)
-      go (refuses m r c) s n = absurd (let z : _≡_ {A = ℕ} 0 1 = cc in omega arith)
+      go (refuses x r c) s n = absurd (let z : _≡_ {A = ℕ} 0 1 = cc in omega arith)
 
   -- the stop's line, and nothing more
   pub following-stopped : {w : Stop} {q : ContainerParser} {k : ℕ} → nextOf p at (drop at f) ≡ N.Stopped w q k → Rest p at f ≡ text (L.Stopped w k)
@@ -104,8 +98,8 @@ module _ (p : ContainerParser) (f : List ℕ) (at : ℕ) where
           let stop : S.Want ≡ w = cc in
           let place : at + c ≡ k = cc in
           ap (λ (x : Seen). listingText (listing x)) (take-is (waits s)) ∙ (λ i. text (L.Stopped (stop i) (place i)))
-      go (refuses m r c) s n =
-          let stop : S.Refused (named m) ≡ w = cc in
+      go (refuses x r c) s n =
+          let stop : printed x ≡ w = cc in
           let place : at + c ≡ k = cc in
           ap (λ (x : Seen). listingText (listing x)) (take-is (ends s)) ∙ (λ i. text (L.Stopped (stop i) (place i)))
 

@@ -1,18 +1,16 @@
 -- The text of a listing: of what was seen, and of a whole file.
 use mathlib.Core.List.{List, [], _∷_, _++_}
 use Prim.Native.Nat.{ℕ, _+_, _-_, _^_, min}
-use lib.Dec.{eqb, leb}
+use lib.Dec.{leb}
 use lib.ListN.{length}
 use Rattle.jxl_container.specs.Bytes.{if}
 use Rattle.jxl_container.specs.Step.{Told, shows, wants, refuses, shifted, stepOf}
-use Rattle.jxl_container.specs.declared.Refusal.{Refusal}
-use Rattle.jxl_container.specs.declared.Refusal.the-variants.{InvalidBox, ValidationFailed}
 use Rattle.jxl_container.specs.declared.ContainerParser.{ContainerParser}
 use Rattle.jxl_container.specs.declared.parse.Event.{Event}
 use Rattle.jxl_container.specs.declared.parse.Event.the-variants as E
 use Rattle.jxl_files.specs.Grammar.{Listing, file}
 use Rattle.jxl_files.specs.Grammar as G
-use Rattle.jxl_listing.specs.Lines.{text}
+use Rattle.jxl_listing.specs.Lines.{printed, text}
 use Rattle.jxl_listing.specs.Putting.{Outcome, leaves, pasted}
 use Rattle.jxl_listing.specs.declared.Line.{Line}
 use Rattle.jxl_listing.specs.declared.Line.the-variants as L
@@ -22,13 +20,9 @@ use Rattle.jxl_listing.specs.declared.Put.the-variants.{Written, NoRoom}
 use Rattle.jxl_turns.specs.declared.Following.{Following}
 use Rattle.jxl_turns.specs.declared.Following.the-variants as N
 
--- the refusal of a number
-abbrev pub named : ℕ → Refusal
-named n = if (eqb n 1) InvalidBox ValidationFailed
-
 abbrev pub stopOf : G.Stop → Stop
 stopOf G.want = S.Want
-stopOf (G.refused n) = S.Refused (named n)
+stopOf (G.refused w) = printed w
 
 abbrev pub texts : List Event → List ℕ
 texts [] = []
@@ -46,7 +40,7 @@ fileText s = listingText (file s)
 abbrev pub nextIn : ℕ → Told → Following
 nextIn at (shows e q c) = N.Shown (shifted at e) q (at + c)
 nextIn at (wants q c) = N.Stopped S.Want q (at + c)
-nextIn at (refuses n q c) = N.Stopped (S.Refused (named n)) q (at + c)
+nextIn at (refuses w q c) = N.Stopped (printed w) q (at + c)
 
 abbrev pub nextOf : ContainerParser → ℕ → List ℕ → Following
 nextOf p at s = nextIn at (stepOf p s)

@@ -75,7 +75,7 @@ fn next(parser: ContainerParser, file: &[u8], at: usize) -> Following
             next,
             consumed,
         } => Following::Stopped {
-            stop: Stop::Refused(refusal),
+            stop: Stop::refused(refusal),
             parser: next,
             at: at + consumed,
         },

@@ -2,7 +2,7 @@ use mathlib.Core.Path.{ap}
 use native.Mathlib.Omega.{arith}
 use denote.Ref.{now}
 use Rattle.jxl_container.specs.Step.{told}
-use Rattle.jxl_turns.proofs.Text.{far, shown-fits, wants-fits, refuses-fits, named-number}
+use Rattle.jxl_turns.proofs.Text.{far, shown-fits, wants-fits, refuses-fits}
 use borrow.Author.Needs.{needs}
 use Rattle.jxl_turns.proofs.next.Statement.{statement}
 use Rattle.jxl_turns.proofs.next.Tie as tie
@@ -37,8 +37,11 @@ add-t21 c = omega (arith, wants-fits (c .before .before .before .before .before 
 enum-known-refusal : tie.Need-enum-known-refusal
 enum-known-refusal c = search needs
 
+refused-requires : tie.Need-refused-requires
+refused-requires c κs = search needs
+
 add-t23 : tie.Need-add-t23
-add-t23 c = omega (arith, refuses-fits (c .before .before .before .before .before .before .args .parser) (now (c .before .before .before .before .before .before .args .file)) (c .before .before .before .before .before .before .args .at) (c .before .before .before .before .before .before .pre) (far (c .before .before .before .before .before .before .args .parser) (now (c .before .before .before .before .before .before .args .file)) (c .before .before .before .before .before .before .args .at) (c .before .before .before .before .before .before .pre) (c .before .before .before .step .ensures) (ap told (c .before .refusal .given .1))))
+add-t23 c = omega (arith, refuses-fits (c .before .before .before .before .before .before .before .args .parser) (now (c .before .before .before .before .before .before .before .args .file)) (c .before .before .before .before .before .before .before .args .at) (c .before .before .before .before .before .before .before .pre) (far (c .before .before .before .before .before .before .before .args .parser) (now (c .before .before .before .before .before .before .before .args .file)) (c .before .before .before .before .before .before .before .args .at) (c .before .before .before .before .before .before .before .pre) (c .before .before .before .before .step .ensures) (ap told (c .before .before .refusal .given .1))))
 
 returns : tie.Need-returns
 returns c = rw (far (c .before .before .before .before .before .before .before .args .parser) (now (c .before .before .before .before .before .before .before .args .file)) (c .before .before .before .before .before .before .before .args .at) (c .before .before .before .before .before .before .before .pre) (c .before .before .before .before .step .ensures) (ap told (c .before .before .event .given .1)), c .place .ensures)
@@ -47,7 +50,7 @@ returns-2 : tie.Need-returns-2
 returns-2 c = rw (far (c .before .before .before .before .before .before .args .parser) (now (c .before .before .before .before .before .before .args .file)) (c .before .before .before .before .before .before .args .at) (c .before .before .before .before .before .before .pre) (c .before .before .before .step .ensures) (ap told (c .before .next .given .1)))
 
 returns-3 : tie.Need-returns-3
-returns-3 c = rw (far (c .before .before .before .before .before .before .args .parser) (now (c .before .before .before .before .before .before .args .file)) (c .before .before .before .before .before .before .args .at) (c .before .before .before .before .before .before .pre) (c .before .before .before .step .ensures) (ap told (c .before .refusal .given .1)), named-number (c .before .refusal .given .0 .0))
+returns-3 c = rw (far (c .before .before .before .before .before .before .before .args .parser) (now (c .before .before .before .before .before .before .before .args .file)) (c .before .before .before .before .before .before .before .args .at) (c .before .before .before .before .before .before .before .pre) (c .before .before .before .before .step .ensures) (ap told (c .before .before .refusal .given .1)), c .refused .ensures)
 
 pub next-spec : {M : Type 1} → statement M
 next-spec =
@@ -63,6 +66,7 @@ next-spec =
     enum-known-next
     add-t21
     enum-known-refusal
+    refused-requires
     add-t23
     returns
     returns-2
