@@ -67,8 +67,8 @@ module _ (base : ℕ) (s : List ℕ) (w : Stop) where
   feeds (lacks st ev none so) = λ stop. absurd (let z : _≡_ {A = ℕ} 0 1 = cc in omega arith)
   feeds {k = k} {p = p} {h = h} (waits {c = c} {q = q} st so) =
       taken p h k so (take-is (Feeding.waits st)) (λ stop. at-stop base h G.want q (k + c) (cc))
-  feeds {k = k} {p = p} {h = h} (ends {c = c} {n = n} {q = q} st so) =
-      taken p h k so (take-is (Feeding.ends st)) (λ stop. at-stop base h (G.refused n) q (k + c) (cc))
+  feeds {k = k} {p = p} {h = h} (ends {c = c} {x = x} {q = q} st so) =
+      taken p h k so (take-is (Feeding.ends st)) (λ stop. at-stop base h (G.refused x) q (k + c) (cc))
 
 pub turn-feeds : TurnFeeds
 turn-feeds base s room p h w = feeds base s w (goes base s room p h 0 (omega arith))

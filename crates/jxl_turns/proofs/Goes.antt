@@ -8,15 +8,17 @@ use native.Mathlib.Omega.{arith}
 use lib.Dec.{leb, ltb}
 use lib.ListN.{length, drop}
 use borrow.Author.Tests.{leb-true, leb-false, ltb-true, ltb-false}
+use Rattle.jxl_container.specs.Record.{Why}
 use Rattle.jxl_container.specs.Step.{Told, shows, wants, refuses, shifted, stepOf}
 use Rattle.jxl_container.specs.declared.ContainerParser.{ContainerParser}
 use Rattle.jxl_container.specs.declared.parse.Event.{Event}
 use Rattle.jxl_files.specs.Feeding.{Seen}
 use Rattle.jxl_files.specs.Joiner.{adding, handed}
 use Rattle.jxl_files.specs.declared.Held.{Held}
+use Rattle.jxl_listing.specs.Lines.{printed}
 use Rattle.jxl_listing.specs.declared.Stop.{Stop}
 use Rattle.jxl_listing.specs.declared.Stop.the-variants as S
-use Rattle.jxl_turns.specs.Listed.{named, texts, nextIn, nextOf}
+use Rattle.jxl_turns.specs.Listed.{texts, nextIn, nextOf}
 use Rattle.jxl_turns.specs.Turned.{Turned, over, behind, turnFrom, turnOf}
 use Rattle.jxl_turns.specs.declared.End.the-variants as End
 use Rattle.jxl_turns.specs.declared.Following.the-variants as N
@@ -37,8 +39,8 @@ pub data Goes (base : ℕ) (s : List ℕ) : ℕ → ContainerParser → Held →
   lacks : {room k c : ℕ} {p q : ContainerParser} {h : Held} {u : Turned} {d e : Event} → stepOf p (drop k s) ≡ shows d q c → e ≡ shifted base (shifted k d)
       → room < length (lineOf h e) → u ≡ over End.Full p h k → Goes base s room p h k u
   waits : {room k c : ℕ} {p q : ContainerParser} {h : Held} {u : Turned} → stepOf p (drop k s) ≡ wants q c → u ≡ over (End.Stopped S.Want) q h (k + c) → Goes base s room p h k u
-  ends : {room k c n : ℕ} {p q : ContainerParser} {h : Held} {u : Turned} → stepOf p (drop k s) ≡ refuses n q c
-      → u ≡ over (End.Stopped (S.Refused (named n))) q h (k + c) → Goes base s room p h k u
+  ends : {room k c : ℕ} {x : Why} {p q : ContainerParser} {h : Held} {u : Turned} → stepOf p (drop k s) ≡ refuses x q c
+      → u ≡ over (End.Stopped (printed x)) q h (k + c) → Goes base s room p h k u
 
 module _ (base : ℕ) (s : List ℕ) where
   -- by what the next step tells, and whether there is room
@@ -58,7 +60,7 @@ module _ (base : ℕ) (s : List ℕ) where
           let over = leb-false (length (line base h (shifted k d))) room y in
           lacks st refl over (turn-full base s room p h k (ap (nextIn k) st) over)
   goes-by room p h k i rest (wants q c) st = waits st (turn-stopped base s room p h k (ap (nextIn k) st))
-  goes-by room p h k i rest (refuses n q c) st = ends st (turn-stopped base s room p h k (ap (nextIn k) st))
+  goes-by room p h k i rest (refuses x q c) st = ends st (turn-stopped base s room p h k (ap (nextIn k) st))
 
   -- with fewer than n events to come
   goes-for : (n room : ℕ) (p : ContainerParser) (h : Held) (k : ℕ) → count p k s < n → k ≤ length s → Goes base s room p h k (turnFrom base s room p h k)

@@ -15,9 +15,9 @@ use Rattle.jxl_files.specs.Feeding as Feeding
 use Rattle.jxl_files.specs.Theorems.{All}
 use Rattle.jxl_files.specs.declared.Held.{Held}
 use Rattle.jxl_files.proofs.Taking.{takes, take-is}
+use Rattle.jxl_listing.specs.Lines.{printed}
 use Rattle.jxl_listing.specs.declared.Stop.{Stop}
 use Rattle.jxl_listing.specs.declared.Stop.the-variants as S
-use Rattle.jxl_turns.specs.Listed.{named}
 use Rattle.jxl_turns.specs.Theorems.{Feeds, HeldFits, TurnsGoOn, RowIsOneTurn, RowWithRoom, RowFeeds, RowEnds}
 use Rattle.jxl_turns.specs.Turned.{Turned, over, behind, turnOf}
 use Rattle.jxl_turns.specs.Row.{goesOn, rowBy, rowOf}
@@ -66,8 +66,8 @@ module _ (base : ℕ) (s : List ℕ) where
       lacks (ap (stepOf p) (sym (drop-drop k c s)) ∙ st) (ev ∙ shift-further base c k d) none (ap (forward c) so)
   moved c {k = k} {p = p} {h = h} (waits {c = n} {q = q} st so) =
       waits (ap (stepOf p) (sym (drop-drop k c s)) ∙ st) (ap (forward c) so ∙ ap (over (End.Stopped S.Want) q h) (let z : c + (k + n) ≡ c + k + n = omega arith in z))
-  moved c {k = k} {p = p} {h = h} (ends {c = n} {n = x} {q = q} st so) =
-      ends (ap (stepOf p) (sym (drop-drop k c s)) ∙ st) (ap (forward c) so ∙ ap (over (End.Stopped (S.Refused (named x))) q h) (let z : c + (k + n) ≡ c + k + n = omega arith in z))
+  moved c {k = k} {p = p} {h = h} (ends {c = n} {x = x} {q = q} st so) =
+      ends (ap (stepOf p) (sym (drop-drop k c s)) ∙ st) (ap (forward c) so ∙ ap (over (End.Stopped (printed x)) q h) (let z : c + (k + n) ≡ c + k + n = omega arith in z))
 
   -- the room that the lines fill is enough
   filled : {room k : ℕ} {p : ContainerParser} {h : Held} {t : Turned} → Goes base s room p h k t → Goes base s (length (t .lines)) p h k t
