@@ -1,15 +1,16 @@
 -- A turn that ends with no room is full: it has put a line, if there was room for the longest.
 use mathlib.Core.Path.{_≡_, refl, sym, ap, subst}
+use mathlib.Core.Logic.{⊎-elim}
 use mathlib.Core.Bool.{Bool, true, false}
 use mathlib.Core.List.{List, [], _∷_, append-nil}
-use Prim.Native.Nat.{ℕ, zero, suc, _+_, _-_, _^_, _<_, _≤_}
+use Prim.Native.Nat.{ℕ, _+_, _^_, _<_, _≤_}
 use native.Mathlib.Omega.{arith}
-use lib.Dec.{leb, ltb}
+use lib.Dec.{ltb}
 use lib.ListN.{length, drop, length-append, length-drop}
-use borrow.Author.Tests.{leb-true, leb-false, ltb-true, ltb-false}
+use borrow.Author.Tests.{ltb-true}
 use Rattle.jxl_container.specs.Bytes.{if, and}
 use Rattle.jxl_container.specs.Laws.{Inside}
-use Rattle.jxl_container.specs.Step.{Told, shows, wants, refuses, shifted, stepOf}
+use Rattle.jxl_container.specs.Step.{shifted}
 use Rattle.jxl_container.specs.declared.ContainerParser.{ContainerParser}
 use Rattle.jxl_container.specs.declared.parse.Event.{Event}
 use Rattle.jxl_container.specs.declared.parse.Event.the-variants as E
@@ -22,73 +23,35 @@ use Rattle.jxl_listing.specs.Lines.{text}
 use Rattle.jxl_listing.specs.declared.Line.the-variants as L
 use Rattle.jxl_listing.proofs.Numbers.{decimal-most, type-length}
 use Rattle.jxl_listing.proofs.Sizes.{most-bytes}
-use Rattle.jxl_turns.specs.Listed.{texts, nextIn, nextOf}
+use Rattle.jxl_turns.specs.Listed.{texts}
 use Rattle.jxl_turns.specs.Theorems.{FullMeansFull, HeldFits, TurnKeepsFit, TurnAdvances}
-use Rattle.jxl_turns.specs.Turned.{Turned, turnFrom, turnOf}
+use Rattle.jxl_turns.specs.Turned.{Turned, turnOf}
 use Rattle.jxl_turns.specs.declared.End.the-variants as End
-use Rattle.jxl_turns.specs.declared.Following.the-variants as N
-use Rattle.jxl_turns.proofs.Text.{count, following-shown}
-use Rattle.jxl_turns.proofs.Turning.{line, held, turn-shown, turn-full, turn-stopped, turn-near, turn-too-far}
+use Rattle.jxl_turns.proofs.Text.{shown-fits}
+use Rattle.jxl_turns.proofs.Goes.{lineOf, Goes, puts, lacks, waits, ends, went, near-or-not, full-near}
 
 -- a joiner hands back what it held, or nothing
 handed-back : (b : Bool) (x : Event) (a c : Held) → length (texts (handed (if b (added Nothing a) (added (Waiting x) c) .out))) ≤ length (texts (x ∷ []))
 handed-back true x a c = omega arith
 handed-back false x a c = omega arith
 
-line-held : (base : ℕ) (h : Held) (e : Event) → length (line base h e) ≤ length (texts (handed h))
-line-held base Nothing e = omega arith
-line-held base (Waiting x) e = handed-back (extends x (shifted base e)) x (Waiting (longer (lengthOf (shifted base e)) x)) (Waiting (shifted base e))
+line-held : (h : Held) (e : Event) → length (lineOf h e) ≤ length (texts (handed h))
+line-held Nothing e = omega arith
+line-held (Waiting x) e = handed-back (extends x e) x (Waiting (longer (lengthOf e) x)) (Waiting e)
 
 -- the lines put and the line of the event held are more than the room
 abbrev Filled : ℕ → Turned → Type 0
 Filled room t = t .end ≡ End.Full → room < length (t .lines) + length (texts (handed (t .held)))
 
-filled-by : {room : ℕ} {t t′ : Turned} → t ≡ t′ → Filled room t′ → Filled room t
-filled-by {room} a f = subst (Filled room) (sym a) f
-
-module _ (base : ℕ) (s : List ℕ) where
-  -- by what the next step tells, and whether there is room
-  step-fills : (room : ℕ) (p : ContainerParser) (h : Held) (k : ℕ) → k ≤ length s
-      → ((left : ℕ) (q : ContainerParser) (g : Held) (m : ℕ) → count p k s ≡ suc (count q m s) → m ≤ length s → Filled left (turnFrom base s left q g m))
-      → (t : Told) → stepOf p (drop k s) ≡ t → Filled room (turnFrom base s room p h k)
-  step-fills room p h k i rest (shows d r c) st = room-or-not (leb (length (line base h (shifted k d))) room) refl
-    where
-      next : nextOf p k (drop k s) ≡ N.Shown (shifted k d) r (k + c)
-      next = ap (nextIn k) st
-
-      room-or-not : (b : Bool) → leb (length (line base h (shifted k d))) room ≡ b → Filled room (turnFrom base s room p h k)
-      room-or-not true y =
-          let l = line base h (shifted k d) in
-          let left = room - length l in
-          let g = held base h (shifted k d) in
-          let after = following-shown p s k i next in
-          let fits = leb-true (length l) room y in
-          filled-by (turn-shown base s room p h k i next fits)
-          (λ e. omega (arith, fits, rest left r g (k + c) (after .2) (after .1) e, length-append l (turnFrom base s left r g (k + c) .lines)))
-      room-or-not false y =
-          let over = leb-false (length (line base h (shifted k d))) room y in
-          filled-by (turn-full base s room p h k next over) (λ e. omega (arith, over, line-held base h (shifted k d)))
-  step-fills room p h k i rest (wants r c) st =
-      filled-by (turn-stopped base s room p h k (ap (nextIn k) st)) (λ e. absurd (let z : _≡_ {A = ℕ} 0 1 = cc in omega arith))
-  step-fills room p h k i rest (refuses x r c) st =
-      filled-by (turn-stopped base s room p h k (ap (nextIn k) st)) (λ e. absurd (let z : _≡_ {A = ℕ} 0 1 = cc in omega arith))
-
-  -- with fewer than n events to come
-  fills-from : (n room : ℕ) (p : ContainerParser) (h : Held) (k : ℕ) → count p k s < n → k ≤ length s → Filled room (turnFrom base s room p h k)
-  fills-from zero room p h k few i = absurd (omega arith)
-  fills-from (suc n) room p h k few i =
-      step-fills room p h k i (λ left q g m fewer j. fills-from n left q g m (omega (arith, fewer)) j) (stepOf p (drop k s)) refl
+fills : {base : ℕ} {s : List ℕ} {room k : ℕ} {p : ContainerParser} {h : Held} {t : Turned} → Goes base s room p h k t → Filled room t
+fills {room = room} {h = h} (puts {t = t} {e = e} st ev at fits so g) =
+    subst (Filled room) (sym so) (λ full. omega (arith, fits, fills g full, length-append (lineOf h e) (t .lines)))
+fills {room = room} {h = h} (lacks {e = e} st ev none so) = subst (Filled room) (sym so) (λ full. omega (arith, none, line-held h e))
+fills (waits st so) = λ full. absurd (let z : _≡_ {A = ℕ} 0 1 = cc in omega arith)
+fills (ends st so) = λ full. absurd (let z : _≡_ {A = ℕ} 0 1 = cc in omega arith)
 
 pub full-means-full : FullMeansFull
-full-means-full base s room p h = go (ltb (base + length s) 18446744073709551616) refl
-  where
-    go : (b : Bool) → ltb (base + length s) 18446744073709551616 ≡ b → Filled room (turnOf base s room p h)
-    go true y =
-        filled-by (sym (turn-near base s room p h (ltb-true (base + length s) 18446744073709551616 y)))
-        (fills-from base s (suc (count p 0 s)) room p h 0 (omega arith) (omega arith))
-    go false y =
-        filled-by (sym (turn-too-far base s room p h (ltb-false (base + length s) 18446744073709551616 y)))
-        (λ e. absurd (let z : _≡_ {A = ℕ} 0 1 = cc in omega arith))
+full-means-full base s room p h full = fills (went base s room p h (full-near base s room p h full)) full
 
 -- an event whose place and length fit 64 bits
 abbrev Fits : Event → Type 0
@@ -123,43 +86,23 @@ adding-fits (Waiting x) e i f = go (joins x e) (ltb (lengthOf x + lengthOf e) 18
     go false true y = f
     go false false y = f
 
+abbrev KeepsFit : Turned → Type 0
+KeepsFit t = HeldFits (t .held)
+
 module _ (base : ℕ) (s : List ℕ) (near : base + length s < 2 ^ 64) where
-  step-keeps : (room : ℕ) (p : ContainerParser) (h : Held) (k : ℕ) → k ≤ length s → HeldFits h
-      → ((left : ℕ) (q : ContainerParser) (g : Held) (m : ℕ) → count p k s ≡ suc (count q m s) → m ≤ length s → HeldFits g → HeldFits (turnFrom base s left q g m .held))
-      → (t : Told) → stepOf p (drop k s) ≡ t → HeldFits (turnFrom base s room p h k .held)
-  step-keeps room p h k i f rest (shows d r c) st = room-or-not (leb (length (line base h (shifted k d))) room) refl
-    where
-      next : nextOf p k (drop k s) ≡ N.Shown (shifted k d) r (k + c)
-      next = ap (nextIn k) st
-
-      event : Fits (shifted base (shifted k d))
-      event = event-fits base k (length (drop k s)) d ((rw st at (every-step p (drop k s))) .1) (omega (arith, near, i, length-drop k s))
-
-      room-or-not : (b : Bool) → leb (length (line base h (shifted k d))) room ≡ b → HeldFits (turnFrom base s room p h k .held)
-      room-or-not true y =
-          let left = room - length (line base h (shifted k d)) in
-          let after = following-shown p s k i next in
-          subst (λ (t : Turned). HeldFits (t .held)) (sym (turn-shown base s room p h k i next (leb-true (length (line base h (shifted k d))) room y)))
-          (rest left r (held base h (shifted k d)) (k + c) (after .2) (after .1) (adding-fits h (shifted base (shifted k d)) f event))
-      room-or-not false y =
-          subst (λ (t : Turned). HeldFits (t .held)) (sym (turn-full base s room p h k next (leb-false (length (line base h (shifted k d))) room y))) f
-  step-keeps room p h k i f rest (wants r c) st = subst (λ (t : Turned). HeldFits (t .held)) (sym (turn-stopped base s room p h k (ap (nextIn k) st))) f
-  step-keeps room p h k i f rest (refuses x r c) st = subst (λ (t : Turned). HeldFits (t .held)) (sym (turn-stopped base s room p h k (ap (nextIn k) st))) f
-
-  -- with fewer than n events to come
-  keeps-from : (n room : ℕ) (p : ContainerParser) (h : Held) (k : ℕ) → count p k s < n → k ≤ length s → HeldFits h → HeldFits (turnFrom base s room p h k .held)
-  keeps-from zero room p h k few i f = absurd (omega arith)
-  keeps-from (suc n) room p h k few i f =
-      step-keeps room p h k i f (λ left q g m fewer j. keeps-from n left q g m (omega (arith, fewer)) j) (stepOf p (drop k s)) refl
+  keeps : {room k : ℕ} {p : ContainerParser} {h : Held} {t : Turned} → k ≤ length s → HeldFits h → Goes base s room p h k t → KeepsFit t
+  keeps {k = k} {p = p} {h = h} i f (puts {m = m} {d = d} {e = e} st ev at fits so g) =
+      let event : Fits e =
+      subst Fits (sym ev) (event-fits base k (length (drop k s)) d ((rw st at (every-step p (drop k s))) .1) (omega (arith, near, i, length-drop k s))) in
+      let inside : m ≤ length s = omega (arith, at, shown-fits p s k i st .1) in
+      subst KeepsFit (sym so) (keeps inside (adding-fits h e f event) g)
+  keeps i f (lacks st ev none so) = subst KeepsFit (sym so) f
+  keeps i f (waits st so) = subst KeepsFit (sym so) f
+  keeps i f (ends st so) = subst KeepsFit (sym so) f
 
 pub turn-keeps-fit : TurnKeepsFit
-turn-keeps-fit base s room p h f = go (ltb (base + length s) 18446744073709551616) refl
-  where
-    go : (b : Bool) → ltb (base + length s) 18446744073709551616 ≡ b → HeldFits (turnOf base s room p h .held)
-    go true y =
-        let near = ltb-true (base + length s) 18446744073709551616 y in
-        subst (λ (t : Turned). HeldFits (t .held)) (turn-near base s room p h near) (keeps-from base s near (suc (count p 0 s)) room p h 0 (omega arith) (omega arith) f)
-    go false y = subst (λ (t : Turned). HeldFits (t .held)) (turn-too-far base s room p h (ltb-false (base + length s) 18446744073709551616 y)) f
+turn-keeps-fit base s room p h f =
+    ⊎-elim (λ near. keeps base s near (omega arith) f (went base s room p h near)) (λ far. subst KeepsFit (sym far) f) (near-or-not base s room p h)
 
 -- a line of such an event has at most 56 bytes, whatever its type
 fits-most : (e : Event) → Fits e → length (text (L.Shown e)) ≤ 56

@@ -1,3 +1,4 @@
 pub mod Listed
 pub mod Turned
+pub mod Row
 pub mod Theorems

@@ -2,7 +2,7 @@
 use mathlib.Core.Path.{_≡_}
 use mathlib.Core.List.{List, [], _∷_, _++_}
 use Prim.Native.Nat.{ℕ, _+_, _^_, _<_, _≤_}
-use lib.ListN.{length}
+use lib.ListN.{length, drop}
 use Rattle.jxl_container.specs.Step.{shifted}
 use Rattle.jxl_container.specs.declared.ContainerParser.{ContainerParser}
 use Rattle.jxl_container.specs.declared.parse.Event.{Event}
@@ -10,11 +10,13 @@ use Rattle.jxl_files.specs.Feeding.{Seen, events}
 use Rattle.jxl_files.specs.Feeding as Feeding
 use Rattle.jxl_files.specs.Joined.{lengthOf}
 use Rattle.jxl_files.specs.Joiner.{handed, run}
+use Rattle.jxl_files.specs.Theorems.{All}
 use Rattle.jxl_files.specs.declared.Held.{Held}
 use Rattle.jxl_files.specs.declared.Held.the-variants.{Nothing, Waiting}
 use Rattle.jxl_listing.specs.declared.Stop.{Stop}
 use Rattle.jxl_turns.specs.Listed.{stopOf, texts, placeOf}
 use Rattle.jxl_turns.specs.Turned.{Turned, turnFrom, turnOf}
+use Rattle.jxl_turns.specs.Row.{goesOn, rowOf}
 use Rattle.jxl_turns.specs.declared.End.the-variants as End
 
 -- events of an input that stands at `base` in the file
@@ -62,3 +64,35 @@ abbrev pub TurnAdvances : Type 0
 TurnAdvances =
     (base : ℕ) (s : List ℕ) (room : ℕ) (p : ContainerParser) (h : Held) → HeldFits h → 56 ≤ room → turnOf base s room p h .end ≡ End.Full
     → 0 < length (turnOf base s room p h .lines)
+
+-- a turn that ended for want of room and the next one are one turn, with room for the lines of the first and then the room of the next
+abbrev pub TurnsGoOn : Type 0
+TurnsGoOn =
+    (base : ℕ) (s : List ℕ) (room next : ℕ) (p : ContainerParser) (h : Held) → turnOf base s room p h .end ≡ End.Full →
+    let t = turnOf base s room p h in
+    goesOn t (turnOf (base + t .consumed) (drop (t .consumed) s) next (t .parser) (t .held)) ≡ turnOf base s (length (t .lines) + next) p h
+
+-- and so a row of turns, one at least, is the one turn whose room its lines fill
+abbrev pub RowIsOneTurn : Type 0
+RowIsOneTurn =
+    (base : ℕ) (s : List ℕ) (room : ℕ) (rooms : List ℕ) (p : ContainerParser) (h : Held)
+    → rowOf base s (room ∷ rooms) p h ≡ turnOf base s (length (rowOf base s (room ∷ rooms) p h .lines)) p h
+
+-- a row that the parser ended is the turn with any room that its lines fit
+abbrev pub RowWithRoom : Type 0
+RowWithRoom =
+    (base : ℕ) (s : List ℕ) (rooms : List ℕ) (p : ContainerParser) (h : Held) (w : Stop) (room : ℕ) → rowOf base s rooms p h .end ≡ End.Stopped w
+    → length (rowOf base s rooms p h .lines) ≤ room → rowOf base s rooms p h ≡ turnOf base s room p h
+
+-- and took exactly what feeding takes of the whole input
+abbrev pub RowFeeds : Type 0
+RowFeeds =
+    (base : ℕ) (s : List ℕ) (rooms : List ℕ) (p : ContainerParser) (h : Held) (w : Stop) → rowOf base s rooms p h .end ≡ End.Stopped w
+    → Feeds base h (Feeding.take p 0 s) w (rowOf base s rooms p h)
+
+-- the parser ends a row of as many turns as there are events, one at least, each with room for the longest line
+abbrev pub RowEnds : Type 0
+RowEnds =
+    (base : ℕ) (s : List ℕ) (room : ℕ) (rooms : List ℕ) (p : ContainerParser) (h : Held) → base + length s < 2 ^ 64 → HeldFits h
+    → All (λ r. 56 ≤ r) (room ∷ rooms) → length (events (Feeding.take p 0 s)) ≤ length (room ∷ rooms)
+    → (w : Stop) × (rowOf base s (room ∷ rooms) p h .end ≡ End.Stopped w)
