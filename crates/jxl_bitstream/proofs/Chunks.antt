@@ -3,7 +3,7 @@
 use mathlib.Core.Bool.{Bool, true, false, cond}
 use mathlib.Core.List.{List, [], _∷_}
 use mathlib.Core.Path.{_≡_, refl, sym, ap, _∙_}
-use Prim.Native.Nat.{ℕ, zero, suc, _+_, _*_, _%_, _^_, _≤_, _<_, min}
+use Prim.Native.Nat.{ℕ, zero, suc, _+_, _*_, _%_, _^_, _≤_, _<_}
 use native.Mathlib.Nat.{add-comm}
 use native.Mathlib.Omega.{arith}
 use borrow.Author.Tests.{eq-eqb, ne-eqb}
@@ -13,9 +13,9 @@ use lib.Dec.{eqb}
 use lib.ListN.{length, drop}
 use lib.Pow.{pow-add, shl-exact}
 use Rattle.jxl_bitstream.specs.Answer.{Field, gives, refuses, _>>=_, done}
-use Rattle.jxl_bitstream.specs.Bits.{end}
 use Rattle.jxl_bitstream.specs.Fields.{begin, part, chunks, places, plus, u64By, u64}
 use Rattle.jxl_bitstream.specs.Refusals.{eof}
+use Rattle.jxl_bitstream.specs.Theorems.{AtMost73}
 use Rattle.jxl_bitstream.proofs.Parts.{begun, gave, given}
 
 -- the places in turn
@@ -108,7 +108,7 @@ by-most k s at w p = go (eqb k 0) (eqb k 1) (eqb k 2)
         omega (arith, given 12 s at (g .0) (g .1) (sym (g .2)) .next, chunks-most places (g .0) s (g .1) w p (g .3))
 
 -- from where the reading starts
-pub at-most-73 : (s : List ℕ) (at v p : ℕ) → u64 s at ≡ gives v p → p ≤ min at (end s) + 73
+pub at-most-73 : AtMost73
 unfolding u64
 at-most-73 s at v p h =
     let b = gave s (begin false s at) (λ _. part 2 >>= λ k. u64By k) v p h in

@@ -1,9 +1,9 @@
 -- F16. The float arithmetic of the subnormals gives the bits that the rule says: one test over all 1,024 mantissas.
 -- And the bits of each code are exactly the paper's number of units of 2^-24 with its sign: the same test, and a law where the exponent is not 0.
 -- Assumes nothing.
-use mathlib.Core.Bool.{Bool, true, false, not, _&&_, Bool·beq}
-use mathlib.Core.List.{List}
-use mathlib.Core.Path.{_≡_, refl, sym, ap, _∙_}
+use mathlib.Core.Bool.{Bool, true, false, not, _&&_, Bool·beq, cond}
+use mathlib.Core.List.{List, []}
+use mathlib.Core.Path.{_≡_, refl, sym, ap, subst, _∙_}
 use Prim.Native.Nat.{ℕ, zero, suc, _+_, _*_, _/_, _%_, _^_, _<_}
 use native.Mathlib.Nat.{not-suc-le-zero, mul-assoc, mul-comm, mul-left-comm, mul-right-comm, eq-of-mul-eq-mul-right}
 use native.Mathlib.Numerals.{add-one}
@@ -17,10 +17,13 @@ use lib.Ieee.Fits.{and-l, and-r, mul-fits, neg-fits}
 use lib.Ieee.{Float, nan, inf, fin, up, down, binary32, mul, div, neg, ofInt, ofBits, odd, ofFields, toBits, fits, nanBits, isNan}
 use lib.IntN.{pos}
 use lib.Pow.{pow-add}
-use Rattle.jxl_bitstream.specs.Answer.{gives, _>>=_}
-use Rattle.jxl_bitstream.specs.Fields.{begin, part, half, f16}
-use Rattle.jxl_bitstream.specs.Half.{sign, exponent, mantissa, units, magnitude, pattern}
-use Rattle.jxl_bitstream.proofs.Parts.{differ, gave, given}
+use Rattle.jxl_bitstream.specs.Answer.{Answer, onward, gives, refuses, _>>=_, done, refuse}
+use Rattle.jxl_bitstream.specs.Bits.{bits, start}
+use Rattle.jxl_bitstream.specs.Fields.{begin, part, half, f16, ExactlyGiven}
+use Rattle.jxl_bitstream.specs.Half.{sign, exponent, mantissa, units, magnitude, pattern, Exactly}
+use Rattle.jxl_bitstream.specs.Refusals.{float}
+use Rattle.jxl_bitstream.specs.Theorems.{Exact, F16Exact}
+use Rattle.jxl_bitstream.proofs.Parts.{begun, given}
 
 -- ---- a test at every number below n
 abbrev all : (ℕ → Bool) → ℕ → Bool
@@ -157,8 +160,7 @@ above s e m he hm =
     (rescaled (odd 24 s q (112 + e) 149) s (q * 2 ^ (112 + e)) (2 ^ 149) ((1024 + m) * 2 ^ e) (2 ^ 24) (lit< tt) (rw (p, whole) (regroup (1024 + m) (2 ^ e) (2 ^ 13) (2 ^ 112) (2 ^ 24))) (odd-sign 24 s q (112 + e) 149))
 
 -- the bits of every code but those with exponent 31 are exactly its units, with its sign; zero keeps its sign
-pub exact : (v : ℕ) → v < 2 ^ 16 → exponent v < 31
-    → HasValue (ofBits binary32 (pattern v)) (eqb (sign v) 1) (units (exponent v) (mantissa v)) (2 ^ 24)
+pub exact : Exact
 unfolding pattern units
 exact v h l = rw (weighs (sign v) (omega arith)) (go (exponent v) l)
   where
@@ -177,26 +179,33 @@ unfolding magnitude
 magnitude-above zero m n = absurd (n refl)
 magnitude-above (suc e) m n = omega arith
 
--- what `read_f16_as_f32` gives is a number
-has-number : (x : Float) (s : Bool) (a c : ℕ) → HasValue x s a c → T (not (isNan x))
+-- what F16 gives is exact
+pub f16-exact : F16Exact
+unfolding f16 half
+f16-exact s at = begins (begin false s at) refl
+  where
+    codes : (v p : ℕ) → v < 2 ^ 16 → v ≡ bits s (start s at) 16 → (t : Bool) → eqb (exponent v) 31 ≡ t
+        → ExactlyGiven s at (cond t (refuse float []) (done (ofBits binary32 (pattern v))) s p)
+    codes v p small same true e = tt
+    codes v p small same false e = subst (λ (w : ℕ). Exactly w (ofBits binary32 (pattern v))) same (exact v small (omega (arith, eqb-false (exponent v) 31 e)))
+
+    parts : (q : ℕ) → q ≡ start s at → (b : Answer ℕ) → part 16 s q ≡ b → ExactlyGiven s at (onward s b half)
+    parts q place (refuses r t p) e = tt
+    parts q place (gives v p) e =
+        let g = given 16 s q v p (sym e) in
+        codes v p (g .below) (g .value ∙ ap (λ (x : ℕ). bits s x 16) place) (eqb (exponent v) 31) refl
+
+    begins : (b : Answer (Unit {0})) → begin false s at ≡ b → ExactlyGiven s at (onward s b (λ _. part 16 >>= half))
+    begins (refuses r t q) e = tt
+    begins (gives u q) e = parts q (begun false s at q (sym e) .place) (part 16 s q) refl
+
+-- so an answer that is told as the rule has it is exact
+pub given-exactly : (s : List ℕ) (at : ℕ) (a : Answer Float) → a ≡ f16 s at → (a ≡ f16 s at) × ExactlyGiven s at a
+given-exactly s at a e = (e, rw e (f16-exact s at))
+
+-- and what has a value is a number
+pub has-number : (x : Float) (s : Bool) (a c : ℕ) → HasValue x s a c → T (not (isNan x))
 unfolding isNan
 has-number nan s a c h = absurd h
 has-number (inf t) s a c h = absurd h
 has-number (fin t m e) s a c h = tt
-
-same-value : {A : Type 0} {a b : A} {p q : ℕ} → gives a p ≡ gives b q → b ≡ a
-same-value h = cc
-
-pub f16-number : (s : List ℕ) (at : ℕ) (x : Float) (p : ℕ) → f16 s at ≡ gives x p → T (not (isNan x))
-unfolding f16 half
-f16-number s at x p h =
-    let b = gave s (begin false s at) (λ _. part 16 >>= half) x p h in
-    let g = gave s (part 16 s (b .1)) half x p (b .3) in
-    numeric (g .0) (given 16 s (b .1) (g .0) (g .1) (sym (g .2)) .below) (eqb (exponent (g .0)) 31) refl (g .1) (g .3)
-  where
-    numeric : (v : ℕ) → v < 2 ^ 16 → (t : Bool) → eqb (exponent v) 31 ≡ t → (q : ℕ) → half v s q ≡ gives x p → T (not (isNan x))
-    numeric v small true e q k = differ (sym (rw e at k))
-    numeric v small false e q k =
-        let same : x ≡ ofBits binary32 (pattern v) = same-value (rw e at k) in
-        let low : exponent v < 31 = omega (arith, eqb-false (exponent v) 31 e) in
-        rw same (has-number _ _ _ _ (exact v small low))

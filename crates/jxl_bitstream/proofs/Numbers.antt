@@ -10,11 +10,7 @@ use lib.Bits.{bitAnd, and-mask}
 use lib.Dec.{lit<}
 use lib.ListN.{getD, drop}
 use lib.Pow.{shl-exact, shr-shr, field, mod-mod-pow}
-use Rattle.jxl_bitstream.specs.Bits.{number, bits}
-
--- every element is a byte
-abbrev pub Bytes : List ℕ → Type 0
-Bytes s = (i : ℕ) → getD s i 0 < 256
+use Rattle.jxl_bitstream.specs.Bits.{Bytes, number, bits}
 
 -- a byte, then the rest; beyond the end all is 0
 pub number-at : (s : List ℕ) (i : ℕ) → number (drop i s) ≡ getD s i 0 + 256 * number (drop (suc i) s)

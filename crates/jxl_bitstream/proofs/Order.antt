@@ -8,11 +8,12 @@ use native.Mathlib.Nat.{add-comm, mod-one}
 use native.Mathlib.Omega.{arith}
 use lib.ListN.{getD, drop}
 use lib.Pow.{shr-shr, mod-pow-add}
-use Rattle.jxl_bitstream.specs.Bits.{number, bits, bit}
-use Rattle.jxl_bitstream.proofs.Numbers.{Bytes, number-at, cut, bits-from}
+use Rattle.jxl_bitstream.specs.Bits.{Bytes, number, bits, bit}
+use Rattle.jxl_bitstream.specs.Theorems.{LowestFirst, Together}
+use Rattle.jxl_bitstream.proofs.Numbers.{number-at, cut, bits-from}
 
 -- n bits, then m above them
-pub together : (s : List ℕ) (at n m : ℕ) → bits s at (n + m) ≡ bits s at n + 2 ^ n * bits s (at + n) m
+pub together : Together
 unfolding bits
 together s at n m =
     let x = number s / 2 ^ at in
@@ -22,7 +23,7 @@ together s at n m =
     ∙ omega arith
 
 -- one bit is the bit of its byte
-pub one : (s : List ℕ) → Bytes s → (at : ℕ) → bits s at 1 ≡ bit s at
+one : (s : List ℕ) → Bytes s → (at : ℕ) → bits s at 1 ≡ bit s at
 unfolding bit
 one s h at =
     let x = number (drop (at / 8) s) in
@@ -30,11 +31,14 @@ one s h at =
     sym (bits-from s h at 1) ∙ sym (cut x 8 (at % 8) 1 (omega arith)) ∙ ap (λ (y : ℕ). y / 2 ^ (at % 8) % 2) byte
 
 -- no bits are 0, and the first of n + 1 bits is the lowest
-pub none : (s : List ℕ) (at : ℕ) → bits s at 0 ≡ 0
+none : (s : List ℕ) (at : ℕ) → bits s at 0 ≡ 0
 unfolding bits
 none s at = mod-one (number s / 2 ^ at)
 
-pub lowest-first : (s : List ℕ) → Bytes s → (at n : ℕ) → bits s at (suc n) ≡ bit s at + 2 * bits s (at + 1) n
-lowest-first s h at n =
+more : (s : List ℕ) → Bytes s → (at n : ℕ) → bits s at (suc n) ≡ bit s at + 2 * bits s (at + 1) n
+more s h at n =
     let up : suc n ≡ 1 + n = omega arith in
     ap (bits s at) up ∙ together s at 1 n ∙ ap (λ (y : ℕ). y + 2 * bits s (at + 1) n) (one s h at)
+
+pub lowest-first : LowestFirst
+lowest-first s h at = (none s at, more s h at)

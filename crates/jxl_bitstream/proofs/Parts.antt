@@ -3,7 +3,7 @@
 use mathlib.Core.Bool.{Bool, true, false, cond}
 use mathlib.Core.List.{List, []}
 use mathlib.Core.Path.{_≡_, refl, sym}
-use Prim.Native.Nat.{ℕ, _+_, _-_, _/_, _^_, _≤_, _<_, min}
+use Prim.Native.Nat.{ℕ, _+_, _-_, _/_, _^_, _≤_, _<_}
 use native.Mathlib.Nat.{mod-lt}
 use native.Mathlib.Omega.{arith}
 use borrow.Author.Tests.{ltb-false, leb-true}
@@ -11,7 +11,7 @@ use lib.Dec.{ltb, leb}
 use lib.ListN.{length}
 use lib.Pow.{pow-pos}
 use Rattle.jxl_bitstream.specs.Answer.{Answer, Field, onward, gives, refuses}
-use Rattle.jxl_bitstream.specs.Bits.{number, bits, end}
+use Rattle.jxl_bitstream.specs.Bits.{number, bits, end, start}
 use Rattle.jxl_bitstream.specs.Fields.{begin, part}
 use Rattle.jxl_bitstream.specs.Ready.{Ready}
 use Rattle.jxl_bitstream.specs.Refusals.{eof, width, long}
@@ -32,7 +32,7 @@ gave s (refuses r t q) next v p h = differ (sym h)
 pub record Begun (wide : Bool) (s : List ℕ) (at p : ℕ) : Type 0 where
   pub short : length s ≤ 2 ^ 61 - 1
   pub within : p ≤ end s
-  pub place : p ≡ min at (end s)
+  pub place : p ≡ start s at
   pub narrow : wide ≡ false
 
 pub begun : (wide : Bool) (s : List ℕ) (at p : ℕ) → gives (tt {0}) p ≡ begin wide s at → Begun wide s at p
@@ -40,11 +40,11 @@ unfolding begin
 begun wide s at p h = go (ltb (2 ^ 61 - 1) (length s)) wide refl refl h
   where
     go : (t w : Bool) → ltb (2 ^ 61 - 1) (length s) ≡ t → wide ≡ w
-        → gives (tt {0}) p ≡ cond t (refuses long [] at) (cond w (refuses width [] at) (gives tt (min at (end s)))) → Begun wide s at p
+        → gives (tt {0}) p ≡ cond t (refuses long [] at) (cond w (refuses width [] at) (gives tt (start s at))) → Begun wide s at p
     go true w l e k = differ k
     go false true l e k = differ k
     go false false l e k =
-        let place : p ≡ min at (end s) = cc in
+        let place : p ≡ start s at = cc in
         record { short = ltb-false _ _ l; within = omega arith; place = place; narrow = e }
 
 -- so a part of n bits may follow
@@ -89,7 +89,7 @@ pub long-only : (s : List ℕ) (at r : ℕ) (t : List ℕ) (p : ℕ) → refuses
 unfolding begin
 long-only s at r t p h = go (ltb (2 ^ 61 - 1) (length s)) h
   where
-    go : (b : Bool) → refuses r t p ≡ cond b (refuses long [] at) (gives (tt {0}) (min at (end s)))
-        → _≡_ {A = Answer (Unit {0})} (cond b (refuses long [] at) (gives tt (min at (end s)))) (refuses long [] at)
+    go : (b : Bool) → refuses r t p ≡ cond b (refuses long [] at) (gives (tt {0}) (start s at))
+        → _≡_ {A = Answer (Unit {0})} (cond b (refuses long [] at) (gives tt (start s at))) (refuses long [] at)
     go true k = refl
     go false k = differ (sym k)

@@ -4,35 +4,24 @@
 use mathlib.Core.Bool.{Bool, true, false}
 use mathlib.Core.List.{List}
 use mathlib.Core.Path.{_≡_, refl, sym, ap, _∙_}
-use Prim.Native.Nat.{ℕ, _+_, _-_, _*_, _^_, _≤_, min}
+use Prim.Native.Nat.{ℕ, _+_, _-_, _*_, _^_, _≤_}
 use native.Mathlib.Nat.{min-eq-left}
 use native.Mathlib.Omega.{arith}
 use borrow.Author.Tests.{le-ltb, le-leb, ltb-false}
 use lib.Dec.{leb}
 use lib.ListN.{length}
 use Rattle.jxl_bitstream.specs.Answer.{Answer, gives, refuses, _>>=_, done}
-use Rattle.jxl_bitstream.specs.Bits.{bits, end}
+use Rattle.jxl_bitstream.specs.Bits.{bits, end, start}
 use Rattle.jxl_bitstream.specs.Fields.{over, begin, part, read, peek, consume, move}
+use Rattle.jxl_bitstream.specs.Theorems.{Reads, ReadGave, ReadGives, ReadRead, PeekConsume}
 use Rattle.jxl_bitstream.proofs.Order.{together}
 use Rattle.jxl_bitstream.proofs.Parts.{begun, given, gave}
-
--- where a call starts to read
-abbrev pub start : List ℕ → ℕ → ℕ
-start s at = min at (end s)
 
 begins : (n : ℕ) (s : List ℕ) (at : ℕ) → length s ≤ 2 ^ 61 - 1 → n ≤ 32 → begin (over n) s at ≡ gives tt (start s at)
 unfolding begin
 begins n s at short narrow = rw (le-ltb (2 ^ 61 - 1) (length s) short, le-ltb 32 n narrow)
 
--- A read gives a value exactly where the bits are there: those bits, and the position n further.
-pub record Reads (n : ℕ) (s : List ℕ) (at v p : ℕ) : Type 0 where
-  pub short : length s ≤ 2 ^ 61 - 1
-  pub narrow : n ≤ 32
-  pub within : start s at + n ≤ end s
-  pub value : v ≡ bits s (start s at) n
-  pub next : p ≡ start s at + n
-
-pub read-gave : (n : ℕ) (s : List ℕ) (at v p : ℕ) → read n s at ≡ gives v p → Reads n s at v p
+pub read-gave : ReadGave
 unfolding read
 read-gave n s at v p h =
     let g = gave s (begin (over n) s at) (λ _. part n) v p h in
@@ -46,26 +35,28 @@ read-gave n s at v p h =
       next = omega (arith, b .place, k .next);
     }
 
-pub read-gives : (n : ℕ) (s : List ℕ) (at : ℕ) → length s ≤ 2 ^ 61 - 1 → n ≤ 32 → start s at + n ≤ end s
+there : (n : ℕ) (s : List ℕ) (at : ℕ) → length s ≤ 2 ^ 61 - 1 → n ≤ 32 → start s at + n ≤ end s
     → read n s at ≡ gives (bits s (start s at) n) (start s at + n)
 unfolding read part
-read-gives n s at short narrow within = rw (begins n s at short narrow, le-leb (start s at + n) (end s) within)
+there n s at short narrow within = rw (begins n s at short narrow, le-leb (start s at + n) (end s) within)
+
+pub read-gives : ReadGives
+read-gives n s at v p r = cc (there n s at (r .short) (r .narrow) (r .within))
 
 -- n bits and then m, the m above the n, are n + m bits
-pub read-read : (n m : ℕ) (s : List ℕ) (at v p : ℕ) → read (n + m) s at ≡ gives v p
-    → (read n >>= λ x. read m >>= λ y. done (x + 2 ^ n * y)) s at ≡ gives v p
+pub read-read : ReadRead
 read-read n m s at v p h =
     let r = read-gave (n + m) s at v p h in
     let q = start s at in
     let within = r .within in
     let narrow = r .narrow in
-    let there : start s (q + n) ≡ q + n = min-eq-left (omega arith) in
+    let onward : start s (q + n) ≡ q + n = min-eq-left (omega arith) in
     let far : q + n + m ≡ p = omega (arith, r .next) in
-    rw (read-gives n s at (r .short) (omega arith) (omega arith), read-gives m s (q + n) (r .short) (omega arith) (omega arith), there, far)
+    rw (there n s at (r .short) (omega arith) (omega arith), there m s (q + n) (r .short) (omega arith) (omega arith), onward, far)
     (ap (λ (x : ℕ). gives x p) (sym (together s q n m) ∙ sym (r .value)))
 
 -- a peek and then a consume is a read, refusals too
-pub peek-consume : (n : ℕ) (s : List ℕ) (at : ℕ) → (peek n >>= λ x. consume n >>= λ _. done x) s at ≡ read n s at
+pub peek-consume : PeekConsume
 unfolding peek consume read part move
 peek-consume n s at = go (begin (over n) s at) refl
   where

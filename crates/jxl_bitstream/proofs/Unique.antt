@@ -6,9 +6,11 @@ use mathlib.Core.Path.{_≡_, refl, sym, ap, _∙_}
 use Prim.Native.Nat.{ℕ}
 use lib.Dec.{eqb}
 use lib.ListN.{getD}
-use Rattle.jxl_bitstream.specs.Answer.{Answer, gives, refuses}
-use Rattle.jxl_bitstream.specs.Fields as F
+use Rattle.jxl_bitstream.specs.Answer.{Answer, Field, gives, refuses}
+use Rattle.jxl_bitstream.specs.Fields.{read, peek, consume, skip, pad, bool, u32, u64, enumOf, f16}
+use Rattle.jxl_bitstream.specs.OneAnswer.{OneAnswer}
 use Rattle.jxl_bitstream.specs.Refusals.{eof, padding, float, enum, width, numbered, tells}
+use Rattle.jxl_bitstream.specs.Theorems.{OneOf, OnePeekBits, OneReadBits, OneConsumeBits, OneSkipBits, OneZeroPadToByte, OneReadBool, OneReadU32, OneReadU64, OneReadEnum, OneReadF16AsF32, OneNumReadBits, OneUnpackSigned}
 use Rattle.jxl_bitstream.specs.Told.{toldU32, toldU64, toldBool, toldMoved, toldF16}
 use Rattle.jxl_bitstream.specs.declared.bitstream.Moved.the-variants as M
 use Rattle.jxl_bitstream.specs.declared.bitstream.Moved.{Moved}
@@ -22,10 +24,9 @@ use Rattle.jxl_bitstream.specs.declared.bitstream.ReadU64.the-variants a
 use Rattle.jxl_bitstream.specs.declared.bitstream.ReadU64.{ReadU64}
 use Rattle.jxl_bitstream.specs.declared.bitstream.Refusal.the-variants.{UnexpectedEof, NonZeroPadding, InvalidFloat, InvalidEnum, Width, TooLong}
 use Rattle.jxl_bitstream.specs.declared.bitstream.Refusal.{Refusal}
-use Rattle.jxl_bitstream.specs.declared.bitstream.U32Specifier.{U32Specifier}
 
 -- what is told can be read back, so it is told of one answer only
-pub unique : {A B : Type 0} (told : A → B) (back : B → A) → ((r : A) → back (told r) ≡ r) → (x : B) (r q : A) → told r ≡ x → told q ≡ x → r ≡ q
+unique : {A B : Type 0} (told : A → B) (back : B → A) → ((r : A) → back (told r) ≡ r) → (x : B) → OneAnswer (λ r. told r ≡ x)
 unique told back e x r q h k = sym (e r) ∙ ap back (h ∙ sym k) ∙ e q
 
 -- a refusal, from its number and what it tells
@@ -80,36 +81,45 @@ backF16 (H.UnexpectedEof at) = refl
 backF16 (H.InvalidFloat at) = refl
 backF16 (H.TooLong at) = refl
 
-module _ (s : List ℕ) (at : ℕ) where
-  pub peek-bits : (n : ℕ) (r q : ReadU32) → toldU32 r ≡ F.peek n s at → toldU32 q ≡ F.peek n s at → r ≡ q
-  peek-bits n = unique toldU32 (back U32.Value U32.Refused) backU32 (F.peek n s at)
+-- ---- each function's
+oneU32 : (f : Field ℕ) → OneOf toldU32 f
+oneU32 f s at = unique toldU32 (back U32.Value U32.Refused) backU32 (f s at)
 
-  pub read-bits : (n : ℕ) (r q : ReadU32) → toldU32 r ≡ F.read n s at → toldU32 q ≡ F.read n s at → r ≡ q
-  read-bits n = unique toldU32 (back U32.Value U32.Refused) backU32 (F.read n s at)
+oneMoved : (f : Field (Unit {0})) → OneOf toldMoved f
+oneMoved f s at = unique toldMoved (back (λ u. M.To) M.Refused) backMoved (f s at)
 
-  pub consume-bits : (n : ℕ) (r q : Moved) → toldMoved r ≡ F.consume n s at → toldMoved q ≡ F.consume n s at → r ≡ q
-  consume-bits n = unique toldMoved (back (λ u. M.To) M.Refused) backMoved (F.consume n s at)
+pub one-peek-bits : OnePeekBits
+one-peek-bits n = oneU32 (peek n)
 
-  pub skip-bits : (n : ℕ) (r q : Moved) → toldMoved r ≡ F.skip n s at → toldMoved q ≡ F.skip n s at → r ≡ q
-  skip-bits n = unique toldMoved (back (λ u. M.To) M.Refused) backMoved (F.skip n s at)
+pub one-read-bits : OneReadBits
+one-read-bits n = oneU32 (read n)
 
-  pub zero-pad-to-byte : (r q : Moved) → toldMoved r ≡ F.pad s at → toldMoved q ≡ F.pad s at → r ≡ q
-  zero-pad-to-byte = unique toldMoved (back (λ u. M.To) M.Refused) backMoved (F.pad s at)
+pub one-consume-bits : OneConsumeBits
+one-consume-bits n = oneMoved (consume n)
 
-  pub read-bool : (r q : ReadBool) → toldBool r ≡ F.bool s at → toldBool q ≡ F.bool s at → r ≡ q
-  read-bool = unique toldBool (back B.Value B.Refused) backBool (F.bool s at)
+pub one-skip-bits : OneSkipBits
+one-skip-bits n = oneMoved (skip n)
 
-  pub read-u32 : (d : List U32Specifier) (r q : ReadU32) → toldU32 r ≡ F.u32 d s at → toldU32 q ≡ F.u32 d s at → r ≡ q
-  read-u32 d = unique toldU32 (back U32.Value U32.Refused) backU32 (F.u32 d s at)
+pub one-zero-pad-to-byte : OneZeroPadToByte
+one-zero-pad-to-byte = oneMoved pad
 
-  pub read-u64 : (r q : ReadU64) → toldU64 r ≡ F.u64 s at → toldU64 q ≡ F.u64 s at → r ≡ q
-  read-u64 = unique toldU64 (back U64.Value U64.Refused) backU64 (F.u64 s at)
+pub one-read-bool : OneReadBool
+one-read-bool s at = unique toldBool (back B.Value B.Refused) backBool (bool s at)
 
-  pub read-enum : (list : List ℕ) (r q : ReadU32) → toldU32 r ≡ F.enumOf list s at → toldU32 q ≡ F.enumOf list s at → r ≡ q
-  read-enum list = unique toldU32 (back U32.Value U32.Refused) backU32 (F.enumOf list s at)
+pub one-read-u32 : OneReadU32
+one-read-u32 d = oneU32 (u32 d)
 
-  pub read-f16-as-f32 : (r q : ReadF16) → toldF16 r ≡ F.f16 s at → toldF16 q ≡ F.f16 s at → r ≡ q
-  read-f16-as-f32 = unique toldF16 (back H.Value refusedF16) backF16 (F.f16 s at)
+pub one-read-u64 : OneReadU64
+one-read-u64 s at = unique toldU64 (back U64.Value U64.Refused) backU64 (u64 s at)
 
-pub num-read-bits : (at r q : ℕ) → r ≡ at → q ≡ at → r ≡ q
-num-read-bits at = unique (λ (r : ℕ). r) (λ (r : ℕ). r) (λ r. refl) at
+pub one-read-enum : OneReadEnum
+one-read-enum list = oneU32 (enumOf list)
+
+pub one-read-f16-as-f32 : OneReadF16AsF32
+one-read-f16-as-f32 s at = unique toldF16 (back H.Value refusedF16) backF16 (f16 s at)
+
+pub one-num-read-bits : OneNumReadBits
+one-num-read-bits position r q h k = h ∙ sym k
+
+pub one-unpack-signed : OneUnpackSigned
+one-unpack-signed x r q h k = h ∙ sym k

@@ -12,6 +12,7 @@ use borrow.Author.Tests.{eqb-true, eqb-false}
 use mir.Syntax.{Width, w8, w16, w32, w64, w128}
 use mir.Val.{SFits, toZ, ofZ, bits, hbits}
 use mir.ValLaws.{toZ-pos, toZ-neg, pow-bits}
+use Rattle.jxl_bitstream.specs.Theorems.{flipped, Unpacks}
 use Rattle.jxl_bitstream.specs.UnpackSigned.{unpacked}
 
 two-fits : (w : Width) → 2 ≤ 2 ^ hbits w
@@ -22,8 +23,8 @@ two-fits w64 = lit≤ tt
 two-fits w128 = lit≤ tt
 
 -- flipping all k bits of a number below 2 ^ k takes it from 2 ^ k - 1
-flipped : (k a : ℕ) → a < 2 ^ k → bitXor a (2 ^ k - 1) ≡ 2 ^ k - suc a
-flipped k a h =
+taken : (k a : ℕ) → a < 2 ^ k → bitXor a (2 ^ k - 1) ≡ 2 ^ k - suc a
+taken k a h =
     let kept : bitAnd a (2 ^ k - 1) ≡ a = and-mask a k ∙ mod-eq-of-lt h in
     let sum : bitXor a (2 ^ k - 1) + bitAnd a (2 ^ k - 1) * 2 ≡ a + (2 ^ k - 1) = xor-add-and a (2 ^ k - 1) in
     omega arith
@@ -45,19 +46,15 @@ module _ (w : Width) (x : ℕ) where
   pub negated-fits : SFits w (pos 0 -ℤ toZ w (bitAnd x 1))
   negated-fits = flip-fits (eqb (x % 2) 0) refl
 
-  by-bit : x < 2 ^ bits w → (t : Bool) → eqb (x % 2) 0 ≡ t → toZ w (bitXor (x / 2) (ofZ w (pos 0 -ℤ toZ w (bitAnd x 1)))) ≡ unpacked x
+  by-bit : x < 2 ^ bits w → (t : Bool) → eqb (x % 2) 0 ≡ t → flipped w x ≡ unpacked x
   unfolding unpacked
   by-bit h true e =
       rw (bit-is 0 (eqb-true _ _ e), xor-zero-r (x / 2), e) (toZ-pos w (x / 2) (omega (arith, pow-bits w)))
   by-bit h false e =
       let one : x % 2 ≡ 1 = odd e in
       let half : (x + 1) / 2 ≡ suc (x / 2) = omega arith in
-      rw (bit-is 1 one, flipped (bits w) (x / 2) (omega arith), e)
+      rw (bit-is 1 one, taken (bits w) (x / 2) (omega arith), e)
       (toZ-neg w (x / 2) (omega (arith, pow-bits w)) ∙ sym (ap (λ (n : ℕ). negℤ (pos n)) half))
 
-  pub unpacks : x < 2 ^ bits w → toZ w (bitXor (x / 2) (ofZ w (pos 0 -ℤ toZ w (bitAnd x 1)))) ≡ unpacked x
-  unpacks h = by-bit h (eqb (x % 2) 0) refl
-
--- two answers that meet the promise are equal, at every width
-pub one-answer : (x : ℕ) {r r′ : ℤ} → r ≡ unpacked x → r′ ≡ unpacked x → r ≡ r′
-one-answer x p q = p ∙ sym q
+pub unpacks : Unpacks
+unpacks w x h = by-bit w x h (eqb (x % 2) 0) refl

@@ -1,13 +1,13 @@
 -- The fields, as document 01 has them.
 use mathlib.Core.Bool.{Bool, true, false, cond, _||_}
 use mathlib.Core.List.{List, [], _∷_}
-use Prim.Native.Nat.{ℕ, _+_, _-_, _*_, _%_, _^_, min}
+use Prim.Native.Nat.{ℕ, _+_, _-_, _*_, _%_, _^_}
 use lib.Dec.{ltb, leb, eqb}
 use lib.Ieee.{Float, binary32, ofBits}
 use lib.ListN.{length, getD}
-use Rattle.jxl_bitstream.specs.Answer.{Field, gives, refuses, _>>=_, done, refuse}
-use Rattle.jxl_bitstream.specs.Bits.{bits, end}
-use Rattle.jxl_bitstream.specs.Half.{exponent, pattern}
+use Rattle.jxl_bitstream.specs.Answer.{Answer, Field, gives, refuses, _>>=_, done, refuse}
+use Rattle.jxl_bitstream.specs.Bits.{bits, end, start}
+use Rattle.jxl_bitstream.specs.Half.{exponent, pattern, Exactly}
 use Rattle.jxl_bitstream.specs.Refusals.{eof, padding, float, enum, width, long}
 use Rattle.jxl_bitstream.specs.declared.bitstream.U32Specifier.the-variants.{Constant, BitsOffset}
 use Rattle.jxl_bitstream.specs.declared.bitstream.U32Specifier.{U32Specifier}
@@ -17,7 +17,7 @@ unfoldable pub begin : Bool → Field (Unit {0})
 begin wide s at =
     cond (ltb (2 ^ 61 - 1) (length s)) (refuses long [] at)
     (cond wide (refuses width [] at)
-    (gives tt (min at (end s))))
+    (gives tt (start s at)))
 
 abbrev pub over : ℕ → Bool
 over n = ltb 32 n
@@ -124,3 +124,8 @@ half v = cond (eqb (exponent v) 31) (refuse float []) (done (ofBits binary32 (pa
 
 unfoldable pub f16 : Field Float
 f16 = begin false >>= λ _. part 16 >>= half
+
+-- What is given is that exact number: of the 16 bits where the reading starts.
+abbrev pub ExactlyGiven : List ℕ → ℕ → Answer Float → Type 0
+ExactlyGiven s at (gives x p) = Exactly (bits s (start s at) 16) x
+ExactlyGiven s at (refuses r told p) = Unit {0}

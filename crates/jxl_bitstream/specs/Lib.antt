@@ -6,3 +6,5 @@ pub mod Bits
 pub mod Half
 pub mod Fields
 pub mod Ready
+pub mod OneAnswer
+pub mod Theorems

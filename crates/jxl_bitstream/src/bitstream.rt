@@ -446,6 +446,7 @@ fn widened(v: u32) -> f32
 // `F16`, as an f32.
 pub fn read_f16_as_f32(s: &[u8], at: usize) -> ReadF16
     ensures { λ r. ⌜ toldF16 r ≡ F.f16 (now (s .entry)) at ⌝ }
+    ensures { λ r. ⌜ F.ExactlyGiven (now (s .entry)) at (toldF16 r) ⌝ }
 {
     let Moved::To(p) = begin(s, at, false) else {
         return ReadF16::TooLong(at);

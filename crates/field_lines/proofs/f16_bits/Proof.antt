@@ -1,8 +1,6 @@
 -- `f16_bits` is safe: an F16 that is given is a number.
 -- Assumes nothing.
-use mathlib.Core.Path.{_∙_, ap, sym}
-use Rattle.jxl_bitstream.specs.Told.{toldF16}
-use Rattle.jxl_bitstream.proofs.Halves.{f16-number}
+use Rattle.jxl_bitstream.proofs.Halves.{has-number}
 use borrow.Author.Needs.{needs}
 use Rattle.field_lines.proofs.f16_bits.Statement.{statement}
 use Rattle.field_lines.proofs.f16_bits.Tie as tie
@@ -14,9 +12,7 @@ enum-known-x : tie.Need-enum-known-x
 enum-known-x c = search needs
 
 float-to-bits-t10 : tie.Need-float-to-bits-t10
-float-to-bits-t10 c =
-    let a = c .before .before .before .before .before .args in
-    f16-number (a .s .now) (a .at) _ _ (sym (ap toldF16 (sym (c .before .x .given .1)) ∙ c .before .before .before .read-f16-as-f32 .ensures))
+float-to-bits-t10 c = has-number _ _ _ _ (rw (c .before .x .given .1) at (c .before .before .before .read-f16-as-f32 .ensures .1))
 
 enum-known-p : tie.Need-enum-known-p
 enum-known-p c = search needs

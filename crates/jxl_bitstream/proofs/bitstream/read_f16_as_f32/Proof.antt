@@ -8,6 +8,7 @@ use borrow.Author.Tests.{eq-eqb, ne-eqb}
 use lib.Dec.{lit≤}
 use Rattle.jxl_bitstream.specs.Fields.{f16, half}
 use Rattle.jxl_bitstream.specs.Told.{toldU32, toldMoved}
+use Rattle.jxl_bitstream.proofs.Halves.{given-exactly}
 use Rattle.jxl_bitstream.proofs.Parts.{ready, long-only, given, short}
 use Rattle.jxl_bitstream.proofs.bitstream.read_f16_as_f32.Statement.{statement}
 use Rattle.jxl_bitstream.proofs.bitstream.read_f16_as_f32.Tie as tie
@@ -25,7 +26,8 @@ returns : tie.Need-returns
 unfolding f16
 returns c =
     let a = c .before .before .before .before .args in
-    rw (long-only (a .s .now) (a .at) _ _ _ (ap toldMoved (sym (c .enum-told .given .1)) ∙ c .before .before .begin .ensures))
+    given-exactly (a .s .now) (a .at) _
+    (rw (long-only (a .s .now) (a .at) _ _ _ (ap toldMoved (sym (c .enum-told .given .1)) ∙ c .before .before .begin .ensures)))
 
 part-requires : tie.Need-part-requires
 part-requires c κs =
@@ -43,11 +45,15 @@ unfolding f16
 returns-2 c =
     let a = c .before .before .before .before .before .before .before .before .args in
     let p = c .before .before .before .before .p .given .0 .0 in
-    rw (← (ap toldMoved (sym (c .before .before .before .before .p .given .1)) ∙ c .before .before .before .before .before .before .begin .ensures), short 16 (a .s .now) p _ _ _ (ap toldU32 (sym (c .enum-told2 .given .1)) ∙ c .before .before .part .ensures))
+    given-exactly (a .s .now) (a .at) _
+    (rw (← (ap toldMoved (sym (c .before .before .before .before .p .given .1)) ∙ c .before .before .before .before .before .before .begin .ensures), short 16 (a .s .now) p _ _ _ (ap toldU32 (sym (c .enum-told2 .given .1)) ∙ c .before .before .part .ensures)))
 
 returns-3 : tie.Need-returns-3
 unfolding f16 half
-returns-3 c = rw (← (ap toldMoved (sym (c .before .before .before .before .before .before .p .given .1)) ∙ c .before .before .before .before .before .before .before .before .begin .ensures), ← (ap toldU32 (sym (c .before .before .v .given .1)) ∙ c .before .before .before .before .part .ensures), eq-eqb _ _ (c .if1 .taken))
+returns-3 c =
+    let a = c .before .before .before .before .before .before .before .before .before .before .args in
+    given-exactly (a .s .now) (a .at) _
+    (rw (← (ap toldMoved (sym (c .before .before .before .before .before .before .p .given .1)) ∙ c .before .before .before .before .before .before .before .before .begin .ensures), ← (ap toldU32 (sym (c .before .before .v .given .1)) ∙ c .before .before .before .before .part .ensures), eq-eqb _ _ (c .if1 .taken)))
 
 widened-requires : tie.Need-widened-requires
 widened-requires c κs =
@@ -58,7 +64,10 @@ widened-requires c κs =
 
 returns-4 : tie.Need-returns-4
 unfolding f16 half
-returns-4 c = rw (← (ap toldMoved (sym (c .before .before .before .before .before .before .before .p .given .1)) ∙ c .before .before .before .before .before .before .before .before .before .begin .ensures), ← (ap toldU32 (sym (c .before .before .before .v .given .1)) ∙ c .before .before .before .before .before .part .ensures), ne-eqb _ _ (c .before .if1 .left), c .widened .ensures)
+returns-4 c =
+    let a = c .before .before .before .before .before .before .before .before .before .before .before .args in
+    given-exactly (a .s .now) (a .at) _
+    (rw (← (ap toldMoved (sym (c .before .before .before .before .before .before .before .p .given .1)) ∙ c .before .before .before .before .before .before .before .before .before .begin .ensures), ← (ap toldU32 (sym (c .before .before .before .v .given .1)) ∙ c .before .before .before .before .before .part .ensures), ne-eqb _ _ (c .before .if1 .left), c .widened .ensures))
 
 pub read-f16-as-f32-spec : {M : Type 1} → statement M
 read-f16-as-f32-spec =

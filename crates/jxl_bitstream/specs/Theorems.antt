@@ -1,0 +1,116 @@
+-- What is proved of the fields besides the functions' promises, each statement a type that proofs/ has a proof of under the same name in small letters.
+use mathlib.Core.Path.{_≡_}
+use mathlib.Core.List.{List}
+use Prim.Native.Nat.{ℕ, suc, _+_, _-_, _*_, _/_, _^_, _≤_, _<_}
+use lib.Bits.{bitAnd, bitXor}
+use lib.Ieee.{binary32, ofBits}
+use lib.IntN.{ℤ, pos, _-ℤ_}
+use lib.ListN.{length}
+use mir.Syntax.{Width}
+use mir.Val as Machine
+use Rattle.jxl_bitstream.specs.Answer.{Answer, Field, gives, _>>=_, done}
+use Rattle.jxl_bitstream.specs.Bits.{Bytes, bits, bit, end, start}
+use Rattle.jxl_bitstream.specs.Fields.{read, peek, consume, skip, pad, bool, u32, u64, enumOf, f16, ExactlyGiven}
+use Rattle.jxl_bitstream.specs.Half.{exponent, pattern, Exactly}
+use Rattle.jxl_bitstream.specs.OneAnswer.{OneAnswer}
+use Rattle.jxl_bitstream.specs.Told.{toldU32, toldU64, toldBool, toldMoved, toldF16}
+use Rattle.jxl_bitstream.specs.UnpackSigned.{unpacked}
+use Rattle.jxl_bitstream.specs.declared.bitstream.U32Specifier.{U32Specifier}
+
+-- ---- the order of the bits
+-- Bits come lowest first within a byte; the first bit read is the lowest of the value.
+abbrev pub LowestFirst : Type 0
+LowestFirst = (s : List ℕ) → Bytes s → (at : ℕ) → (bits s at 0 ≡ 0) × ((n : ℕ) → bits s at (suc n) ≡ bit s at + 2 * bits s (at + 1) n)
+
+-- n + m bits are n bits, and m above them
+abbrev pub Together : Type 0
+Together = (s : List ℕ) (at n m : ℕ) → bits s at (n + m) ≡ bits s at n + 2 ^ n * bits s (at + n) m
+
+-- ---- readers
+-- A read gives the n bits from where it starts, and the position behind them, exactly where those bits are there.
+pub record Reads (n : ℕ) (s : List ℕ) (at v p : ℕ) : Type 0 where
+  pub short : length s ≤ 2 ^ 61 - 1
+  pub narrow : n ≤ 32
+  pub within : start s at + n ≤ end s
+  pub value : v ≡ bits s (start s at) n
+  pub next : p ≡ start s at + n
+
+abbrev pub ReadGave : Type 0
+ReadGave = (n : ℕ) (s : List ℕ) (at v p : ℕ) → read n s at ≡ gives v p → Reads n s at v p
+
+abbrev pub ReadGives : Type 0
+ReadGives = (n : ℕ) (s : List ℕ) (at v p : ℕ) → Reads n s at v p → read n s at ≡ gives v p
+
+-- reading n and then m bits is reading n + m
+abbrev pub ReadRead : Type 0
+ReadRead =
+    (n m : ℕ) (s : List ℕ) (at v p : ℕ) → read (n + m) s at ≡ gives v p
+    → (read n >>= λ x. read m >>= λ y. done (x + 2 ^ n * y)) s at ≡ gives v p
+
+-- a peek and then a consume is a read, refusals too
+abbrev pub PeekConsume : Type 0
+PeekConsume = (n : ℕ) (s : List ℕ) (at : ℕ) → (peek n >>= λ x. consume n >>= λ _. done x) s at ≡ read n s at
+
+-- U64: at most 73 bits.
+abbrev pub AtMost73 : Type 0
+AtMost73 = (s : List ℕ) (at v p : ℕ) → u64 s at ≡ gives v p → p ≤ start s at + 73
+
+-- ---- F16
+-- The bits of every code but those with exponent 31 are exactly the code's number.
+abbrev pub Exact : Type 0
+Exact = (v : ℕ) → v < 2 ^ 16 → exponent v < 31 → Exactly v (ofBits binary32 (pattern v))
+
+-- and so what F16 gives is exactly the number of the bits read
+abbrev pub F16Exact : Type 0
+F16Exact = (s : List ℕ) (at : ℕ) → ExactlyGiven s at (f16 s at)
+
+-- ---- UnpackSigned, once over the width
+-- what the code computes: x / 2, with every bit flipped where x is odd
+abbrev pub flipped : Width → ℕ → ℤ
+flipped w x = Machine.toZ w (bitXor (x / 2) (Machine.ofZ w (pos 0 -ℤ Machine.toZ w (bitAnd x 1))))
+
+abbrev pub Unpacks : Type 0
+Unpacks = (w : Width) (x : ℕ) → x < 2 ^ Machine.bits w → flipped w x ≡ unpacked x
+
+-- ---- one answer
+-- of a field: whatever the bytes and the position
+abbrev pub OneOf : {R A : Type 0} → (R → Answer A) → Field A → Type 0
+OneOf told field = (s : List ℕ) (at : ℕ) → OneAnswer (λ r. told r ≡ field s at)
+
+abbrev pub OnePeekBits : Type 0
+OnePeekBits = (n : ℕ) → OneOf toldU32 (peek n)
+
+abbrev pub OneReadBits : Type 0
+OneReadBits = (n : ℕ) → OneOf toldU32 (read n)
+
+abbrev pub OneConsumeBits : Type 0
+OneConsumeBits = (n : ℕ) → OneOf toldMoved (consume n)
+
+abbrev pub OneSkipBits : Type 0
+OneSkipBits = (n : ℕ) → OneOf toldMoved (skip n)
+
+abbrev pub OneZeroPadToByte : Type 0
+OneZeroPadToByte = OneOf toldMoved pad
+
+abbrev pub OneReadBool : Type 0
+OneReadBool = OneOf toldBool bool
+
+abbrev pub OneReadU32 : Type 0
+OneReadU32 = (d : List U32Specifier) → OneOf toldU32 (u32 d)
+
+abbrev pub OneReadU64 : Type 0
+OneReadU64 = OneOf toldU64 u64
+
+abbrev pub OneReadEnum : Type 0
+OneReadEnum = (list : List ℕ) → OneOf toldU32 (enumOf list)
+
+-- its first clause alone says which
+abbrev pub OneReadF16AsF32 : Type 0
+OneReadF16AsF32 = OneOf toldF16 f16
+
+abbrev pub OneNumReadBits : Type 0
+OneNumReadBits = (position : ℕ) → OneAnswer (λ (r : ℕ). r ≡ position)
+
+-- at both widths
+abbrev pub OneUnpackSigned : Type 0
+OneUnpackSigned = (x : ℕ) → OneAnswer (λ (r : ℤ). r ≡ unpacked x)
