@@ -8,10 +8,12 @@ use lib.Dec.{eqb}
 use lib.ListN.{getD}
 use Rattle.jxl_bitstream.specs.Answer.{Answer, Field, gives, refuses}
 use Rattle.jxl_bitstream.specs.Fields.{read, peek, consume, skip, pad, bool, u32, u64, enumOf, f16}
-use Rattle.jxl_bitstream.specs.OneAnswer.{OneAnswer}
+use Rattle.jxl_base.specs.OneAnswer.{OneAnswer}
+use Rattle.jxl_base.proofs.OneAnswer.{one-named, one-told}
 use Rattle.jxl_bitstream.specs.Refusals.{eof, padding, float, enum, width, numbered, tells}
 use Rattle.jxl_bitstream.specs.Theorems.{OneOf, OnePeekBits, OneReadBits, OneConsumeBits, OneSkipBits, OneZeroPadToByte, OneReadBool, OneReadU32, OneReadU64, OneReadEnum, OneReadF16AsF32, OneNumReadBits, OneUnpackSigned}
 use Rattle.jxl_bitstream.specs.Told.{toldU32, toldU64, toldBool, toldMoved, toldF16}
+use Rattle.jxl_bitstream.specs.UnpackSigned.{unpacked}
 use Rattle.jxl_bitstream.specs.declared.bitstream.Moved.the-variants as M
 use Rattle.jxl_bitstream.specs.declared.bitstream.Moved.{Moved}
 use Rattle.jxl_bitstream.specs.declared.bitstream.ReadBool.the-variants as B
@@ -27,7 +29,7 @@ use Rattle.jxl_bitstream.specs.declared.bitstream.Refusal.{Refusal}
 
 -- what is told can be read back, so it is told of one answer only
 unique : {A B : Type 0} (told : A → B) (back : B → A) → ((r : A) → back (told r) ≡ r) → (x : B) → OneAnswer (λ r. told r ≡ x)
-unique told back e x r q h k = sym (e r) ∙ ap back (h ∙ sym k) ∙ e q
+unique told back e = one-told told (λ r q same. sym (e r) ∙ ap back same ∙ e q)
 
 -- a refusal, from its number and what it tells
 abbrev named : ℕ → List ℕ → Refusal
@@ -119,7 +121,7 @@ pub one-read-f16-as-f32 : OneReadF16AsF32
 one-read-f16-as-f32 s at = unique toldF16 (back H.Value refusedF16) backF16 (f16 s at)
 
 pub one-num-read-bits : OneNumReadBits
-one-num-read-bits position r q h k = h ∙ sym k
+one-num-read-bits position = one-named position
 
 pub one-unpack-signed : OneUnpackSigned
-one-unpack-signed x r q h k = h ∙ sym k
+one-unpack-signed x = one-named (unpacked x)

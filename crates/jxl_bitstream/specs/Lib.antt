@@ -6,5 +6,4 @@ pub mod Bits
 pub mod Half
 pub mod Fields
 pub mod Ready
-pub mod OneAnswer
 pub mod Theorems

@@ -12,7 +12,7 @@ use Rattle.jxl_bitstream.specs.Answer.{Answer, Field, gives, _>>=_, done
 use Rattle.jxl_bitstream.specs.Bits.{Bytes, bits, bit, end, start}
 use Rattle.jxl_bitstream.specs.Fields.{read, peek, consume, skip, pad, bool, u32, u64, enumOf, f16, ExactlyGiven}
 use Rattle.jxl_bitstream.specs.Half.{exponent, pattern, Exactly}
-use Rattle.jxl_bitstream.specs.OneAnswer.{OneAnswer}
+use Rattle.jxl_base.specs.OneAnswer.{OneAnswer}
 use Rattle.jxl_bitstream.specs.Told.{toldU32, toldU64, toldBool, toldMoved, toldF16}
 use Rattle.jxl_bitstream.specs.UnpackSigned.{unpacked}
 use Rattle.jxl_bitstream.specs.declared.bitstream.U32Specifier.{U32Specifier}

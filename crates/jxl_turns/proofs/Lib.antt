@@ -5,3 +5,4 @@ pub mod Goes
 pub mod Feeds
 pub mod Full
 pub mod Rows
+pub mod Unique

@@ -81,10 +81,6 @@ pub list-refused : (d w : List ℕ) → length d < length w → listOf d w ≡ l
 unfolding listOf
 list-refused d w h = rw (lt-leb (length w) (length d) h)
 
--- two answers that meet the promise of `list_file`, with the buffer then, are equal
-pub one-listing : (d w e e′ : List ℕ) (r r′ : Put) → leaves r e ≡ listOf d w → leaves r′ e′ ≡ listOf d w → (r ≡ r′) × (e ≡ e′)
-one-listing d w e e′ r r′ p q = let same : leaves r e ≡ leaves r′ e′ = p ∙ sym q in (cc, cc)
-
 -- nothing to put
 pub put-nothing : (d : List ℕ) (at : ℕ) → at ≤ length d → putOf d at [] ≡ leaves (Written at) d
 put-nothing d at h = put-fits d at [] (omega arith) ∙ rw (add-zero at, append-nil (take at d), take-append-drop at d)

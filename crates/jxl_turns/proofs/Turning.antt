@@ -162,18 +162,3 @@ module _ (base : ℕ) (s : List ℕ) (room : ℕ) (p : ContainerParser) (h : Hel
   pub turn-too-far : 2 ^ 64 ≤ base + length s → over End.TooFar p h 0 ≡ turnOf base s room p h
   unfolding turnOf
   turn-too-far f = rw (turnOf, le-ltb (base + length s) 18446744073709551616 f)
-
--- two answers that meet the promise of `turn`, with the buffer then, are equal
-abbrev answer : ContainerParser → Held → ℕ → ℕ → End → AfterTurn
-answer p h k w e = record { parser = p; joiner = record { held = h }; consumed = k; written = w; end = e }
-
-pub one-turn : (r r′ : AfterTurn) (out out′ buffer : List ℕ) (t : Turned) → Spec.Told r out buffer t → Spec.Told r′ out′ buffer t → (r ≡ r′) × (out ≡ out′)
-one-turn r r′ out out′ buffer t a b = (answers r a ∙ sym (answers r′ b), a .buffer-is ∙ sym (b .buffer-is))
-  where
-    answers : {d : List ℕ} (x : AfterTurn) → Spec.Told x d buffer t → x ≡ answer (t .parser) (t .held) (t .consumed) (length (t .lines)) (t .end)
-    answers x y =
-        ap (λ (p : ContainerParser). answer p (x .joiner .held) (x .consumed) (x .written) (x .end)) (y .parser-is)
-        ∙ ap (λ (h : Held). answer (t .parser) h (x .consumed) (x .written) (x .end)) (y .held-is)
-        ∙ ap (λ (k : ℕ). answer (t .parser) (t .held) k (x .written) (x .end)) (y .consumed-is)
-        ∙ ap (λ (w : ℕ). answer (t .parser) (t .held) (t .consumed) w (x .end)) (y .written-is)
-        ∙ ap (answer (t .parser) (t .held) (t .consumed) (length (t .lines))) (y .end-is)

@@ -3,6 +3,7 @@ use mathlib.Core.Path.{_≡_}
 use mathlib.Core.List.{List, [], _∷_, _++_}
 use Prim.Native.Nat.{ℕ, _+_, _^_, _<_, _≤_}
 use lib.ListN.{length, drop}
+use Rattle.jxl_base.specs.OneAnswer.{OneAnswerAndBuffer}
 use Rattle.jxl_container.specs.Step.{shifted}
 use Rattle.jxl_container.specs.declared.ContainerParser.{ContainerParser}
 use Rattle.jxl_container.specs.declared.parse.Event.{Event}
@@ -13,9 +14,10 @@ use Rattle.jxl_files.specs.Joiner.{handed, run}
 use Rattle.jxl_files.specs.Theorems.{All}
 use Rattle.jxl_files.specs.declared.Held.{Held}
 use Rattle.jxl_files.specs.declared.Held.the-variants.{Nothing, Waiting}
+use Rattle.jxl_listing.specs.Putting.{leaves}
 use Rattle.jxl_listing.specs.declared.Stop.{Stop}
-use Rattle.jxl_turns.specs.Listed.{stopOf, texts, placeOf}
-use Rattle.jxl_turns.specs.Turned.{Turned, turnFrom, turnOf}
+use Rattle.jxl_turns.specs.Listed.{stopOf, texts, placeOf, listOf}
+use Rattle.jxl_turns.specs.Turned.{Turned, turnFrom, turnOf, Told}
 use Rattle.jxl_turns.specs.Row.{goesOn, rowOf}
 use Rattle.jxl_turns.specs.declared.End.the-variants as End
 
@@ -96,3 +98,10 @@ RowEnds =
     (base : ℕ) (s : List ℕ) (room : ℕ) (rooms : List ℕ) (p : ContainerParser) (h : Held) → base + length s < 2 ^ 64 → HeldFits h
     → All (λ r. 56 ≤ r) (room ∷ rooms) → length (events (Feeding.take p 0 s)) ≤ length (room ∷ rooms)
     → (w : Stop) × (rowOf base s (room ∷ rooms) p h .end ≡ End.Stopped w)
+
+-- one answer: each promise determines what its function gives, and the buffer that it leaves
+abbrev pub OneListing : Type 0
+OneListing = (d w : List ℕ) → OneAnswerAndBuffer (λ r b. leaves r b ≡ listOf d w)
+
+abbrev pub OneTurn : Type 0
+OneTurn = (buffer : List ℕ) (t : Turned) → OneAnswerAndBuffer (λ r b. Told r b buffer t)
