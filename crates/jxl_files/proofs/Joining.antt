@@ -10,7 +10,8 @@ use borrow.Author.Tests.{eq-eqb, ne-eqb, eqb-true, eqb-false, lt-ltb, le-ltb, le
 use Rattle.jxl_container.specs.Bytes.{if, and}
 use Rattle.jxl_container.specs.declared.parse.Event.{Event}
 use Rattle.jxl_container.specs.declared.parse.Event.the-variants as E
-use Rattle.jxl_files.specs.Joined.{codeAt, auxAt, joins, lengthOf, endOf, longer, before, joined}
+use Rattle.jxl_files.specs.Joined.{codeAt, auxAt, joins, lengthOf, endOf, longer}
+use Rattle.jxl_files.specs.Feeding.{before, joined}
 use Rattle.jxl_files.specs.Joiner.{run, Counted, AllCounted}
 use Rattle.jxl_files.specs.Theorems.{JoinerJoins}
 use Rattle.jxl_files.specs.declared.Held.the-variants.{Waiting}

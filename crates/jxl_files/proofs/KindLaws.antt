@@ -29,8 +29,8 @@ use Rattle.jxl_container.specs.declared.DetectState.the-variants as S
 use Rattle.jxl_container.specs.declared.ContainerParser.{ContainerParser}
 use Rattle.jxl_container.specs.declared.parse.Event.{Event}
 use Rattle.jxl_container.specs.declared.parse.Event.the-variants as E
-use Rattle.jxl_files.specs.Joined.{codeAt, auxAt, before, joined}
-use Rattle.jxl_files.specs.Feeding.{Seen, events, feeding, bytesOf, Takes, more, waits, ends}
+use Rattle.jxl_files.specs.Joined.{codeAt, auxAt}
+use Rattle.jxl_files.specs.Feeding.{before, joined, Seen, events, feeding, bytesOf, Takes, more, waits, ends}
 use Rattle.jxl_files.specs.Theorems.{kindTold, KindIsTold, KindOfAFile, RefusalKeepsKind}
 use Rattle.jxl_files.proofs.Never.{never}
 use Rattle.jxl_files.proofs.Taking.{takes}

@@ -13,8 +13,9 @@ use Rattle.jxl_container.proofs.Step.{step-empty}
 use Rattle.jxl_container.proofs.Laws.{every-step, stays}
 use Rattle.jxl_container.specs.declared.ContainerParser.{ContainerParser}
 use Rattle.jxl_cuts.specs.Machine.{shows, wants, refuses}
-use Rattle.jxl_cuts.specs.Lawful.{Open, Repeats, Kept, Lawful}
+use Rattle.jxl_cuts.specs.Lawful.{Open, Repeats, Kept}
 use Rattle.jxl_files.specs.Parser.{parser}
+use Rattle.jxl_files.specs.Theorems.{ParserIsLawful}
 use Rattle.jxl_files.proofs.Moving.{moves}
 use Rattle.jxl_files.proofs.Cut.{cut-step}
 use Rattle.jxl_files.proofs.Sound.{weight, weight-most, sound, apart}
@@ -31,7 +32,7 @@ empty p = go (isRefused p) refl
     go true r = inr (stays p r)
     go false r = inl (step-empty p r)
 
-pub lawful : Lawful parser
+pub lawful : ParserIsLawful
 lawful =
     record {
       moves = moves;

@@ -1,10 +1,11 @@
--- Feeding the container parser: jxl_cuts' feeding, of this machine.
+-- Feeding the container parser, and joining its events: jxl_cuts' feeding and joining, of this machine.
 use mathlib.Core.List.{List}
 use Prim.Native.Nat.{ℕ}
 use Rattle.jxl_container.specs.declared.ContainerParser.{ContainerParser}
 use Rattle.jxl_container.specs.declared.parse.Event.{Event}
 use Rattle.jxl_container.specs.Step.{Told}
 use Rattle.jxl_cuts.specs.Feeding as Any
+use Rattle.jxl_cuts.specs.Joined as AnyJoined
 pub use Rattle.jxl_cuts.specs.Feeding.{eventsIn, events, followed, bytesOf, more, waits, ends}
 use Rattle.jxl_files.specs.Grammar.{Stop}
 use Rattle.jxl_files.specs.Parser.{parser}
@@ -29,6 +30,12 @@ take = Any.take parser
 
 abbrev pub Takes : ContainerParser → ℕ → List ℕ → Seen → List ℕ → Type 0
 Takes = Any.Takes parser
+
+abbrev pub before : Event → List Event → List Event
+before = AnyJoined.before parser
+
+abbrev pub joined : List Event → List Event
+joined = AnyJoined.joined parser
 
 abbrev pub feeding : ContainerParser → ℕ → List (List ℕ) → Seen
 feeding = Any.feeding parser

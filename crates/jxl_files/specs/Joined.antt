@@ -1,9 +1,8 @@
--- Payload parts that lie end to end, joined.
+-- Payload parts that lie end to end: when two events are such parts, and the two in one.
 use mathlib.Core.Bool.{Bool, false}
-use mathlib.Core.List.{List, [], _∷_}
 use Prim.Native.Nat.{ℕ, _+_}
 use lib.Dec.{eqb}
-use Rattle.jxl_container.specs.Bytes.{if, and}
+use Rattle.jxl_container.specs.Bytes.{and}
 use Rattle.jxl_container.specs.declared.parse.Event.{Event}
 use Rattle.jxl_container.specs.declared.parse.Event.the-variants as E
 
@@ -59,12 +58,3 @@ longer m (E.Codestream a n) = E.Codestream a (n + m)
 longer m (E.AuxStart t c e) = E.AuxStart t c e
 longer m (E.AuxData t a n) = E.AuxData t a (n + m)
 longer m (E.AuxEnd t) = E.AuxEnd t
-
--- an event joined before those that follow
-abbrev pub before : Event → List Event → List Event
-before e [] = e ∷ []
-before e (f ∷ es) = if (joins e f) (longer (lengthOf f) e ∷ es) (e ∷ f ∷ es)
-
-abbrev pub joined : List Event → List Event
-joined [] = []
-joined (e ∷ es) = before e (joined es)

@@ -13,14 +13,14 @@ use Rattle.jxl_container.specs.declared.ContainerParser.{ContainerParser}
 use Rattle.jxl_container.specs.declared.parse.Event.{Event}
 use Rattle.jxl_container.specs.declared.parse.Event.the-variants as E
 use Rattle.jxl_base.specs.OneAnswer.{OneAnswer}
+use Rattle.jxl_cuts.specs.Lawful.{Lawful}
 use Rattle.jxl_cuts.specs.Feeding as Any
 use Rattle.jxl_cuts.specs.Theorems as AnyTheorems
 pub use Rattle.jxl_cuts.specs.Theorems.{All}
 use Rattle.jxl_files.specs.Parser.{parserBy, parser}
 use Rattle.jxl_files.specs.Grammar.{want, Listing, file}
-use Rattle.jxl_files.specs.Joined.{joined}
 use Rattle.jxl_files.specs.Joiner.{adding, run, AllCounted, mostEvents}
-use Rattle.jxl_files.specs.Feeding.{Shown, Seen, events, taking, take, feeding, bytesOf, Takes}
+use Rattle.jxl_files.specs.Feeding.{Shown, Seen, events, taking, take, joined, feeding, bytesOf, Takes}
 use Rattle.jxl_files.specs.Placing.{placing}
 use Rattle.jxl_files.specs.declared.Held.the-variants.{Nothing}
 use Rattle.jxl_files.specs.declared.Joiner.{Joiner}
@@ -70,6 +70,10 @@ pub record Caught : Type 0 where
 -- with nothing to join: no two events of one feed lie end to end, from any record
 abbrev pub NothingToJoin : Type 0
 NothingToJoin = (p : ContainerParser) (at : ℕ) (s : List ℕ) → joined (events (take p at s)) ≡ events (take p at s)
+
+-- the parser keeps the laws of jxl_cuts; what follows from them is said below in the parser's own terms
+abbrev pub ParserIsLawful : Type 0
+ParserIsLawful = Lawful parser
 
 -- the events of `f`, joined, and what else it came to, are those of `t`
 abbrev pub Agrees : Seen → Seen → Type 0
