@@ -5,6 +5,6 @@ pub mod Told
 pub mod Bits
 pub mod Half
 pub mod Fields
-pub mod Ready
+pub mod Inside
 pub mod OneAnswer
 pub mod Theorems
