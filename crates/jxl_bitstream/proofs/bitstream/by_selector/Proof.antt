@@ -2,7 +2,7 @@
 -- Assumes nothing.
 use mathlib.Core.Logic.{⊎-elim}
 use mathlib.Core.Path.{_∙_, ap, sym}
-use Prim.Native.Nat.{zero-le}
+use Prim.Native.Nat.{_^_, _≤_, _<_, zero-le}
 use native.Mathlib.Omega.{arith}
 use borrow.Author.Needs.{needs}
 use Rattle.jxl_bitstream.specs.Told.{toldU32}
@@ -46,7 +46,9 @@ plus-requires : tie.Need-plus-requires
 plus-requires c κs =
     let pre = c .before .before .before .before .pre in
     let low = c .before .before .if1 .left in
-    (record { short = pre .short; within = pre .within; narrow = ⊎-elim (λ w. omega arith) (λ w. omega arith) (c .before .if2 .came) }, ⊎-elim (λ w. omega arith) (λ w. omega arith) (c .if3 .came))
+    let narrow : c .before .if2 .width ≤ 32 = ⊎-elim (λ w. omega arith) (λ w. omega arith) (c .before .if2 .came) in
+    let small : c .if3 .offset < 2 ^ 32 = ⊎-elim (λ w. omega arith) (λ w. omega arith) (c .if3 .came) in
+    (record { short = pre .short; within = pre .within; narrow = narrow }, small)
 
 returns-3 : tie.Need-returns-3
 returns-3 c =
