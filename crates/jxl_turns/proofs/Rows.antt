@@ -9,7 +9,6 @@ use lib.Seq.{drop-drop}
 use Rattle.jxl_container.specs.Step.{shifted, stepOf}
 use Rattle.jxl_container.specs.declared.ContainerParser.{ContainerParser}
 use Rattle.jxl_container.specs.declared.parse.Event.{Event}
-use Rattle.jxl_container.specs.declared.parse.Event.the-variants as E
 use Rattle.jxl_files.specs.Feeding.{Seen, Shown, Takes, events, eventsIn}
 use Rattle.jxl_files.specs.Feeding as Feeding
 use Rattle.jxl_files.specs.Theorems.{All}
@@ -24,7 +23,7 @@ use Rattle.jxl_turns.specs.Row.{goesOn, rowBy, rowOf}
 use Rattle.jxl_turns.specs.declared.End.{End}
 use Rattle.jxl_turns.specs.declared.End.the-variants as End
 use Rattle.jxl_turns.proofs.Text.{count, taken-shown}
-use Rattle.jxl_turns.proofs.Turning.{behind-behind}
+use Rattle.jxl_turns.proofs.Turning.{behind-behind, shift-sum}
 use Rattle.jxl_turns.proofs.Goes.{lineOf, Goes, puts, lacks, waits, ends, inside, near-ends, went, comes, near-or-not, full-near, stopped-near}
 use Rattle.jxl_turns.proofs.Feeds.{whole-turn-feeds}
 use Rattle.jxl_turns.proofs.Full.{turn-keeps-fit, turn-advances}
@@ -34,12 +33,7 @@ abbrev forward : ℕ → Turned → Turned
 forward c t = record { lines = t .lines; parser = t .parser; held = t .held; consumed = c + t .consumed; end = t .end }
 
 shift-further : (base c k : ℕ) (e : Event) → shifted (base + c) (shifted k e) ≡ shifted base (shifted (c + k) e)
-shift-further base c k (E.Kind x) = refl
-shift-further base c k E.NoMoreAux = refl
-shift-further base c k (E.Codestream a n) = ap (λ (x : ℕ). E.Codestream x n) (omega arith)
-shift-further base c k (E.AuxStart t b x) = refl
-shift-further base c k (E.AuxData t a n) = ap (λ (x : ℕ). E.AuxData t x n) (omega arith)
-shift-further base c k (E.AuxEnd t) = refl
+shift-further base c k e = shift-sum base c (shifted k e) ∙ ap (shifted base) (sym (shift-sum c k e))
 
 module _ (base : ℕ) (s : List ℕ) where
   -- a turn that ended for want of room, and what comes behind it from there

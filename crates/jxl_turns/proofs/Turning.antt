@@ -51,107 +51,127 @@ module _ (base : ℕ) (s : List ℕ) (room : ℕ) (p : ContainerParser) (h : Hel
   unfolding turning
   turn-stopped n = rw n
 
--- the place of the next event lies in the input
-place-shifted : (k : ℕ) (e : Event) → placeOf (shifted k e) ≤ k + placeOf e
-place-shifted k (E.Kind x) = omega arith
-place-shifted k E.NoMoreAux = omega arith
-place-shifted k (E.Codestream a n) = omega arith
-place-shifted k (E.AuxStart t b i) = omega arith
-place-shifted k (E.AuxData t a n) = omega arith
-place-shifted k (E.AuxEnd t) = omega arith
-
-pub next-place : (p : ContainerParser) (s : List ℕ) (k : ℕ) → k ≤ length s → {e : Event} {q : ContainerParser} {m : ℕ} → nextOf p k (drop k s) ≡ N.Shown e q m → placeOf e ≤ length s
-next-place p s k i {e} {q} {m} n = go (stepOf p (drop k s)) refl n
-  where
-    go : (t : Told) → stepOf p (drop k s) ≡ t → nextIn k t ≡ N.Shown e q m → placeOf e ≤ length s
-    go (shows d r c) st n =
-        let event : shifted k d ≡ e = cc in
-        omega (arith, place-shifted k d, shown-fits p s k i st .0, ap placeOf event)
-    go (wants r c) st n = absurd (let z : _≡_ {A = ℕ} 0 1 = cc in omega arith)
-    go (refuses x r c) st n = absurd (let z : _≡_ {A = ℕ} 0 1 = cc in omega arith)
-
 -- lines behind lines
 pub behind-behind : (a b : List ℕ) (t : Turned) → behind a (behind b t) ≡ behind (a ++ b) t
 behind-behind a b t =
     ap (λ (l : List ℕ). record { lines = l; parser = t .parser; held = t .held; consumed = t .consumed; end = t .end }) (sym (append-assoc a b (t .lines)))
 
--- the end of a turn, with w bytes of lines at the front of the buffer
-pub finish : (out buffer : List ℕ) (w : ℕ) (t : Turned) (e : End) (p : ContainerParser) (j : Joiner) (k : ℕ) → w ≤ length out → drop w out ≡ drop w buffer
-    → t ≡ behind (take w out) (over e p (j .held) k)
-    → Spec.Told (record { parser = p; joiner = j; consumed = k; written = w; end = e }) out buffer t
-finish out buffer w t e p j k h d q =
-    let lines : t .lines ≡ take w out = ap (λ (x : Turned). x .lines) q ∙ append-nil (take w out) in
+-- the end of a turn, with its lines at the front of the buffer
+pub finish : (out buffer : List ℕ) (t : Turned) (r : AfterTurn) → r .written ≤ length out → drop (r .written) out ≡ drop (r .written) buffer
+    → t ≡ behind (take (r .written) out) (over (r .end) (r .parser) (r .joiner .held) (r .consumed)) → Spec.Told r out buffer t
+finish out buffer t r h d q =
+    let lines : t .lines ≡ take (r .written) out = ap (λ (x : Turned). x .lines) q ∙ append-nil (take (r .written) out) in
     record {
       parser-is = sym (ap (λ (x : Turned). x .parser) q);
       held-is = sym (ap (λ (x : Turned). x .held) q);
       consumed-is = sym (ap (λ (x : Turned). x .consumed) q);
       end-is = sym (ap (λ (x : Turned). x .end) q);
-      written-is = sym (ap length lines ∙ length-take-le w out h);
-      buffer-is = front-put out buffer w h d ∙ ap (pasted buffer 0) (sym lines);
+      written-is = sym (ap length lines ∙ length-take-le (r .written) out h);
+      buffer-is = front-put out buffer (r .written) h d ∙ ap (pasted buffer 0) (sym lines);
     }
 
--- within a turn: w bytes of lines are at the front of the buffer, and what is still to come stands behind them
-pub record Going (base : ℕ) (s buffer : List ℕ) (all : Turned) (out : List ℕ) (p : ContainerParser) (h : Held) (k w : ℕ) : Type 0 where
-  pub inside : k ≤ length s
-  pub room : w ≤ length out
+-- within a turn that stands at r: its lines are at the front of the buffer, and what is still to come stands behind them
+pub record Going (base : ℕ) (s buffer : List ℕ) (all : Turned) (out : List ℕ) (r : AfterTurn) : Type 0 where
+  pub inside : r .consumed ≤ length s
+  pub room : r .written ≤ length out
   pub same : length out ≡ length buffer
-  pub untouched : drop w out ≡ drop w buffer
-  pub told : all ≡ behind (take w out) (turnFrom base s (length buffer - w) p h k)
+  pub untouched : drop (r .written) out ≡ drop (r .written) buffer
+  pub told : all ≡ behind (take (r .written) out) (turnFrom base s (length buffer - r .written) (r .parser) (r .joiner .held) (r .consumed))
+  pub goes-on : r .end ≡ End.Full
 
-pub going-first : (base : ℕ) (s buffer : List ℕ) (p : ContainerParser) (h : Held) → Going base s buffer (turnFrom base s (length buffer) p h 0) buffer p h 0 0
-going-first base s buffer p h =
-    record { inside = omega arith; room = omega arith; same = refl; untouched = refl; told = ap (λ (n : ℕ). turnFrom base s n p h 0) (let z : length buffer ≡ length buffer - 0 = omega arith in z) }
+abbrev pub leaving : ContainerParser → Joiner → ℕ → ℕ → End → AfterTurn
+leaving p j k w e = record { parser = p; joiner = j; consumed = k; written = w; end = e }
 
-module _ (base : ℕ) (s buffer : List ℕ) (all : Turned) (out : List ℕ) (p : ContainerParser) (h : Held) (k w : ℕ) (g : Going base s buffer all out p h k w) where
-  -- an event whose line, if any, was put
-  pub going-on : {e : Event} {q : ContainerParser} {m n : ℕ} (put : List ℕ) → nextOf p k (drop k s) ≡ N.Shown e q m → leaves (Written n) put ≡ putOf out w (line base h e)
-      → Going base s buffer all put q (held base h e) m n
-  going-on {e} {q} {m} {n} put f r =
-      let l = line base h e in
-      let was = put-was out w l put r in
-      let kept : drop n put ≡ drop n out =
-      ap (drop n) (was .2) ∙ ap (λ (x : ℕ). drop x (pasted out w l)) (was .1) ∙ drop-pasted out l w (was .0) ∙ ap (λ (x : ℕ). drop x out) (sym (was .1)) in
-      let further : drop n out ≡ drop n buffer =
-      ap (λ (x : ℕ). drop x out) (was .1) ∙ sym (drop-drop (length l) w out) ∙ ap (drop (length l)) (g .untouched) ∙ drop-drop (length l) w buffer ∙ ap (λ (x : ℕ). drop x buffer) (sym (was .1)) in
-      let front : take n put ≡ take w out ++ l = ap (take n) (was .2) ∙ ap (λ (x : ℕ). take x (pasted out w l)) (was .1) ∙ take-pasted out l w (was .0) in
-      let left : length buffer - w - length l ≡ length buffer - n = omega (arith, was .1) in
-      record {
-        inside = following-shown p s k (g .inside) f .1;
-        room = omega (arith, ap length (was .2), length-pasted out l w (was .0), was .0, was .1);
-        same = ap length (was .2) ∙ length-pasted out l w (was .0) ∙ g .same;
-        untouched = kept ∙ further;
-        told =
-            g .told
-            ∙ ap (behind (take w out)) (turn-shown base s (length buffer - w) p h k (g .inside) f (omega (arith, was .0, g .same)))
-            ∙ behind-behind (take w out) l (turnFrom base s (length buffer - w - length l) q (held base h e) m)
-            ∙ ap (λ (x : ℕ). behind (take w out ++ l) (turnFrom base s x q (held base h e) m)) left
-            ∙ ap (λ (x : List ℕ). behind x (turnFrom base s (length buffer - n) q (held base h e) m)) (sym front);
-      }
+pub going-first : (base : ℕ) (s buffer : List ℕ) (r : AfterTurn) → r .consumed ≡ 0 → r .written ≡ 0 → r .end ≡ End.Full
+    → Going base s buffer (turnFrom base s (length buffer) (r .parser) (r .joiner .held) 0) buffer r
+going-first base s buffer r k w e =
+    let all = turnFrom base s (length buffer) (r .parser) (r .joiner .held) 0 in
+    let first : Going base s buffer all buffer (leaving (r .parser) (r .joiner) 0 0 (r .end)) =
+    record {
+      inside = omega arith;
+      room = omega arith;
+      same = refl;
+      untouched = refl;
+      told = ap (λ (n : ℕ). turnFrom base s n (r .parser) (r .joiner .held) 0) (let z : length buffer ≡ length buffer - 0 = omega arith in z);
+      goes-on = e;
+    } in
+    subst (λ (m : ℕ). Going base s buffer all buffer (leaving (r .parser) (r .joiner) (r .consumed) m (r .end))) (sym w)
+    (subst (λ (m : ℕ). Going base s buffer all buffer (leaving (r .parser) (r .joiner) m 0 (r .end))) (sym k) first)
 
-  -- an event whose line has no room
-  pub going-full : {e : Event} {q : ContainerParser} {m n : ℕ} (put : List ℕ) (j : Joiner) → j .held ≡ h → nextOf p k (drop k s) ≡ N.Shown e q m → leaves (NoRoom n) put ≡ putOf out w (line base h e)
-      → Spec.Told (record { parser = p; joiner = j; consumed = k; written = w; end = End.Full }) put buffer all × (length put ≡ length buffer)
-  going-full {e} put j t f r =
-      let was = put-was-not out w (line base h e) put r in
-      let end : all ≡ behind (take w out) (over End.Full p (j .held) k) =
-      g .told ∙ ap (behind (take w out)) (turn-full base s (length buffer - w) p h k f (omega (arith, was .0, g .same, g .room)) ∙ ap (λ (x : Held). over End.Full p x k) (sym t)) in (
-        subst (λ (x : List ℕ). Spec.Told (record { parser = p; joiner = j; consumed = k; written = w; end = End.Full }) x buffer all) (sym (was .1)) (finish out buffer w all End.Full p j k (g .room) (g .untouched) end),
-        ap length (was .1) ∙ g .same,
-      )
-
-  pub going-stopped : {x : Stop} {q : ContainerParser} {m : ℕ} (j : Joiner) → j .held ≡ h → nextOf p k (drop k s) ≡ N.Stopped x q m
-      → Spec.Told (record { parser = q; joiner = j; consumed = m; written = w; end = End.Stopped x }) out buffer all
-  going-stopped {x} {q} {m} j t f =
-      let end : all ≡ behind (take w out) (over (End.Stopped x) q (j .held) m) =
-      g .told ∙ ap (behind (take w out)) (turn-stopped base s (length buffer - w) p h k f ∙ ap (λ (y : Held). over (End.Stopped x) q y m) (sym t)) in
-      finish out buffer w all (End.Stopped x) q j m (g .room) (g .untouched) end
+-- an event moved on by a sum
+pub shift-sum : (b k : ℕ) (e : Event) → shifted (b + k) e ≡ shifted b (shifted k e)
+shift-sum b k (E.Kind x) = refl
+shift-sum b k E.NoMoreAux = refl
+shift-sum b k (E.Codestream a n) = ap (λ (x : ℕ). E.Codestream x n) (omega arith)
+shift-sum b k (E.AuxStart t c x) = refl
+shift-sum b k (E.AuxData t a n) = ap (λ (x : ℕ). E.AuxData t x n) (omega arith)
+shift-sum b k (E.AuxEnd t) = refl
 
 -- the line of an event that was placed and added
-pub line-put : (base : ℕ) (h : Held) (e placed : Event) (added : Added) (out : List ℕ) (w : ℕ) {r : Outcome} → placed ≡ shifted base e → added ≡ adding h placed
-    → r ≡ putOf out w (texts (handed (added .out))) → (r ≡ putOf out w (line base h e)) × (held base h e ≡ added .next .held)
-line-put base h e placed added out w p a r =
-    let same : added ≡ adding h (shifted base e) = a ∙ ap (adding h) p in
+line-put : (base k : ℕ) (h : Held) (e placed : Event) (added : Added) (out : List ℕ) (w : ℕ) {r : Outcome} → placed ≡ shifted (base + k) e → added ≡ adding h placed
+    → r ≡ putOf out w (texts (handed (added .out))) → (r ≡ putOf out w (line base h (shifted k e))) × (held base h (shifted k e) ≡ added .next .held)
+line-put base k h e placed added out w p a r =
+    let same : added ≡ adding h (shifted base (shifted k e)) = a ∙ ap (adding h) (p ∙ shift-sum base k e) in
     (r ∙ ap (λ (x : Added). putOf out w (texts (handed (x .out)))) same, ap (λ (x : Added). x .next .held) (sym same))
+
+module _ (base : ℕ) (s buffer : List ℕ) (all : Turned) (out : List ℕ) (r : AfterTurn) (g : Going base s buffer all out r) where
+  -- an event, placed and added to the joiner
+  module _ {d placed : Event} {q : ContainerParser} {c : ℕ} {added : Added} (st : stepOf (r .parser) (drop (r .consumed) s) ≡ shows d q c)
+      (p : placed ≡ shifted (base + r .consumed) d) (a : added ≡ adding (r .joiner .held) placed) where
+    -- its line, if any, was put
+    pub going-on : {n : ℕ} {then : AfterTurn} (put : List ℕ) → leaves (Written n) put ≡ putOf out (r .written) (texts (handed (added .out)))
+        → then ≡ leaving q (added .next) (r .consumed + c) n End.Full → Going base s buffer all put then
+    going-on {n} put e so =
+        let h = r .joiner .held in
+        let w = r .written in
+        let k = r .consumed in
+        let l = line base h (shifted k d) in
+        let into = line-put base k h d placed added out w p a e in
+        let was = put-was out w l put (into .0) in
+        let found : nextOf (r .parser) k (drop k s) ≡ N.Shown (shifted k d) q (k + c) = ap (nextIn k) st in
+        let kept : drop n put ≡ drop n out =
+        ap (drop n) (was .2) ∙ ap (λ (x : ℕ). drop x (pasted out w l)) (was .1) ∙ drop-pasted out l w (was .0) ∙ ap (λ (x : ℕ). drop x out) (sym (was .1)) in
+        let further : drop n out ≡ drop n buffer =
+        ap (λ (x : ℕ). drop x out) (was .1) ∙ sym (drop-drop (length l) w out) ∙ ap (drop (length l)) (g .untouched) ∙ drop-drop (length l) w buffer ∙ ap (λ (x : ℕ). drop x buffer) (sym (was .1)) in
+        let front : take n put ≡ take w out ++ l = ap (take n) (was .2) ∙ ap (λ (x : ℕ). take x (pasted out w l)) (was .1) ∙ take-pasted out l w (was .0) in
+        let left : length buffer - w - length l ≡ length buffer - n = omega (arith, was .1) in
+        subst (Going base s buffer all put) (sym so)
+        (record {
+          inside = following-shown (r .parser) s k (g .inside) found .1;
+          room = omega (arith, ap length (was .2), length-pasted out l w (was .0), was .0, was .1);
+          same = ap length (was .2) ∙ length-pasted out l w (was .0) ∙ g .same;
+          untouched = kept ∙ further;
+          told =
+              g .told
+              ∙ ap (behind (take w out)) (turn-shown base s (length buffer - w) (r .parser) h k (g .inside) found (omega (arith, was .0, g .same)))
+              ∙ behind-behind (take w out) l (turnFrom base s (length buffer - w - length l) q (held base h (shifted k d)) (k + c))
+              ∙ ap (λ (x : ℕ). behind (take w out ++ l) (turnFrom base s x q (held base h (shifted k d)) (k + c))) left
+              ∙ ap (λ (x : List ℕ). behind x (turnFrom base s (length buffer - n) q (held base h (shifted k d)) (k + c))) (sym front)
+              ∙ ap (λ (x : Held). behind (take n put) (turnFrom base s (length buffer - n) q x (k + c))) (into .1);
+          goes-on = refl;
+        })
+
+    -- its line has no room
+    pub going-full : {n : ℕ} (put : List ℕ) → leaves (NoRoom n) put ≡ putOf out (r .written) (texts (handed (added .out)))
+        → Spec.Told r put buffer all × (length put ≡ length buffer)
+    going-full put e =
+        let h = r .joiner .held in
+        let w = r .written in
+        let k = r .consumed in
+        let was = put-was-not out w (line base h (shifted k d)) put (line-put base k h d placed added out w p a e .0) in
+        let end : all ≡ behind (take w out) (over (r .end) (r .parser) h k) =
+        g .told
+        ∙ ap (behind (take w out)) (turn-full base s (length buffer - w) (r .parser) h k (ap (nextIn k) st) (omega (arith, was .0, g .same, g .room)))
+        ∙ ap (λ (x : End). behind (take w out) (over x (r .parser) h k)) (sym (g .goes-on)) in
+        (subst (λ (x : List ℕ). Spec.Told r x buffer all) (sym (was .1)) (finish out buffer all r (g .room) (g .untouched) end), ap length (was .1) ∙ g .same)
+
+  -- the parser stops
+  pub going-stopped : {x : Stop} {q : ContainerParser} {m : ℕ} {then : AfterTurn} → nextOf (r .parser) (r .consumed) (drop (r .consumed) s) ≡ N.Stopped x q m
+      → then ≡ leaving q (r .joiner) m (r .written) (End.Stopped x) → Spec.Told then out buffer all
+  going-stopped {x} {q} {m} f so =
+      subst (λ (y : AfterTurn). Spec.Told y out buffer all) (sym so)
+      (finish out buffer all (leaving q (r .joiner) m (r .written) (End.Stopped x)) (g .room) (g .untouched)
+      (g .told ∙ ap (behind (take (r .written) out)) (turn-stopped base s (length buffer - r .written) (r .parser) (r .joiner .held) (r .consumed) f)))
 
 -- whether the input's place in the file fits
 module _ (base : ℕ) (s : List ℕ) (room : ℕ) (p : ContainerParser) (h : Held) where

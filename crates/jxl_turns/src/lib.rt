@@ -43,10 +43,7 @@ fn place(event: Event, base: usize) -> Event
             at: base + at,
             len,
         },
-        Event::Kind(kind) => Event::Kind(kind),
-        Event::NoMoreAux => Event::NoMoreAux,
-        Event::AuxStart { ty, brotli, to_end } => Event::AuxStart { ty, brotli, to_end },
-        Event::AuxEnd { ty } => Event::AuxEnd { ty },
+        _ => event,
     }
 }
 
@@ -204,63 +201,87 @@ fn put_held(out: &mut [u8], at: usize, held: Held) -> Put
     }
 }
 
-// The work of a turn on an input whose place fits.
-fn turn_from(
+// What a turn leaves.
+fn after(
     parser: ContainerParser,
     joiner: Joiner,
-    base: usize,
-    input: &[u8],
-    out: &mut [u8],
+    consumed: usize,
+    written: usize,
+    end: End,
 ) -> AfterTurn
-    requires { ⌜ base + length (now input) < 2 ^ 64 ⌝ }
-    ensures { λ r. ⌜ Told r (now (out .exit)) (now (out .entry)) (turnFrom base (now (input .entry)) (length (now (out .entry))) parser (joiner .held) 0) ⌝ }
+    ensures { λ r. ⌜ r ≡ record { parser = parser; joiner = joiner; consumed = consumed; written = written; end = end } ⌝ }
 {
-    let mut p = parser;
-    let mut j = joiner;
-    let mut k = 0;
-    let mut written = 0;
+    AfterTurn {
+        parser,
+        joiner,
+        consumed,
+        written,
+        end,
+    }
+}
+
+// The work of a turn on an input whose place fits. `t` is what it leaves if the next line has no room.
+fn turn_from(start: AfterTurn, base: usize, input: &[u8], out: &mut [u8]) -> AfterTurn
+    requires { ⌜ (start .consumed ≡ 0) × (start .written ≡ 0) × (start .end ≡ End.Full) × (base + length (now input) < 2 ^ 64) ⌝ }
+    ensures { λ r. ⌜ Told r (now (out .exit)) (now (out .entry)) (turnFrom base (now (input .entry)) (length (now (out .entry))) (start .parser) (start .joiner .held) 0) ⌝ }
+{
+    let mut t = start;
     loop {
-        match next(p, input, k) {
-            Following::Shown {
+        let p = t.parser;
+        let j = t.joiner;
+        let k = t.consumed;
+        match p.step(&input[k..]) {
+            Step::Shown {
+                next,
+                consumed,
                 event,
-                parser: then,
-                at: further,
             } => {
-                let added = j.add(place(event, base));
+                let added = j.add(place(event, base + k));
                 let handed = added.out;
-                match put_held(out, written, handed) {
-                    Put::Written(w) => {
-                        written = w;
-                        p = then;
-                        let held = added.next;
-                        j = held;
-                        k = further;
-                    }
-                    Put::NoRoom(_) => {
-                        return AfterTurn {
-                            parser: p,
-                            joiner: j,
-                            consumed: k,
-                            written,
-                            end: End::Full,
-                        };
-                    }
+                let held = added.next;
+                match put_held(out, t.written, handed) {
+                    Put::Written(w) => t = after(next, held, k + consumed, w, End::Full),
+                    Put::NoRoom(_) => return t,
                 }
             }
-            Following::Stopped {
-                stop,
-                parser: then,
-                at: consumed,
+            Step::Want { next, consumed } => {
+                return after(next, j, k + consumed, t.written, End::Stopped(Stop::Want));
+            }
+            Step::Refused {
+                next,
+                consumed,
+                refusal,
             } => {
-                return AfterTurn {
-                    parser: then,
-                    joiner: j,
-                    consumed,
-                    written,
-                    end: End::Stopped(stop),
-                };
+                let stop = Stop::refused(refusal);
+                return after(next, j, k + consumed, t.written, End::Stopped(stop));
             }
         }
+    }
+}
+
+// The event, made anew.
+fn same_event(event: Event) -> Event
+    ensures { λ r. ⌜ r ≡ event ⌝ }
+{
+    match event {
+        Event::Codestream { at, len } => Event::Codestream { at, len },
+        Event::AuxData { ty, at, len } => Event::AuxData { ty, at, len },
+        _ => event,
+    }
+}
+
+// The joiner, made anew field by field: a copy takes the unused bytes along, which costs more than the turn itself.
+fn anew(joiner: Joiner) -> Joiner
+    ensures { λ r. ⌜ r ≡ joiner ⌝ }
+{
+    let held = joiner.held;
+    match held {
+        Held::Nothing => Joiner {
+            held: Held::Nothing,
+        },
+        Held::Waiting(event) => Joiner {
+            held: Held::Waiting(same_event(event)),
+        },
     }
 }
 
@@ -275,15 +296,10 @@ pub fn turn(
 ) -> AfterTurn
     ensures { λ r. ⌜ Told r (now (out .exit)) (now (out .entry)) (turnOf base (now (input .entry)) (length (now (out .entry))) parser (joiner .held)) ⌝ }
 {
+    let j = anew(joiner);
     if base <= 0xffff_ffff_ffff_ffff - input.len() {
-        turn_from(parser, joiner, base, input, out)
+        turn_from(after(parser, j, 0, 0, End::Full), base, input, out)
     } else {
-        AfterTurn {
-            parser,
-            joiner,
-            consumed: 0,
-            written: 0,
-            end: End::TooFar,
-        }
+        after(parser, j, 0, 0, End::TooFar)
     }
 }

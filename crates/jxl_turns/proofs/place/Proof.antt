@@ -1,31 +1,38 @@
+use mathlib.Core.Path.{_≡_, refl}
+use mathlib.Core.Logic.{_⊎_, inl, inr}
+use mathlib.Core.List.{[], _∷_}
+use Prim.Native.Nat.{ℕ}
 use native.Mathlib.Omega.{arith}
+use types.Run.{OneOf}
+use denote.Enum.Declared.{tagOf}
 use borrow.Author.Needs.{needs}
+use Rattle.jxl_container.specs.Step.{shifted}
+use Rattle.jxl_container.specs.declared.parse.Event.{Event}
+use Rattle.jxl_container.proofs.parse.Event as Events
+use Rattle.jxl_container.specs.declared.parse.Event.the-variants as E
 use Rattle.jxl_turns.proofs.place.Statement.{statement}
 use Rattle.jxl_turns.proofs.place.Tie as tie
+
+-- an event with no payload has no place
+no-place : (base : ℕ) (e : Event) → OneOf (0 ∷ 1 ∷ 3 ∷ 5 ∷ []) (tagOf Events.the-type e) → e ≡ shifted base e
+no-place base (E.Kind k) o = refl
+no-place base E.NoMoreAux o = refl
+no-place base (E.Codestream a n) o = elim o [ inl x ↦ absurd (omega (arith, x)) | inr (inl x) ↦ absurd (omega (arith, x)) | inr (inr (inl x)) ↦ absurd (omega (arith, x)) | inr (inr (inr x)) ↦ absurd (omega (arith, x)) ]
+no-place base (E.AuxStart t b x) o = refl
+no-place base (E.AuxData t a n) o = elim o [ inl x ↦ absurd (omega (arith, x)) | inr (inl x) ↦ absurd (omega (arith, x)) | inr (inr (inl x)) ↦ absurd (omega (arith, x)) | inr (inr (inr x)) ↦ absurd (omega (arith, x)) ]
+no-place base (E.AuxEnd t) o = refl
 
 enum-known-event : tie.Need-enum-known-event
 enum-known-event c = search needs
 
-add-t14 : tie.Need-add-t14
-add-t14 c = omega (arith, rw (c .before .event .given .1) at (c .before .before .before .pre))
+add-t9 : tie.Need-add-t9
+add-t9 c = omega (arith, rw (c .before .event .given .1) at (c .before .before .before .pre))
 
 enum-known-event-2 : tie.Need-enum-known-event-2
 enum-known-event-2 c = search needs
 
-add-t15 : tie.Need-add-t15
-add-t15 c = omega (arith, rw (c .before .event2 .given .1) at (c .before .before .before .pre))
-
-enum-known-event-3 : tie.Need-enum-known-event-3
-enum-known-event-3 c = search needs
-
-enum-told : tie.Need-enum-told
-enum-told c = search needs
-
-enum-known-event-4 : tie.Need-enum-known-event-4
-enum-known-event-4 c = search needs
-
-enum-known-event-5 : tie.Need-enum-known-event-5
-enum-known-event-5 c = search needs
+add-t10 : tie.Need-add-t10
+add-t10 c = omega (arith, rw (c .before .event2 .given .1) at (c .before .before .before .pre))
 
 returns : tie.Need-returns
 returns c = rw (c .before .event .given .1)
@@ -34,32 +41,9 @@ returns-2 : tie.Need-returns-2
 returns-2 c = rw (c .before .event2 .given .1)
 
 returns-3 : tie.Need-returns-3
-returns-3 c = rw (c .before .event3 .given .1)
-
-returns-4 : tie.Need-returns-4
-returns-4 c = search needs
-
-returns-5 : tie.Need-returns-5
-returns-5 c = rw (c .before .event4 .given .1)
-
-returns-6 : tie.Need-returns-6
-returns-6 c = rw (c .before .event5 .given .1)
+returns-3 c = no-place (c .before .args .base) (c .before .args .event) (c .match .keys3)
 
 pub place-spec : {M : Type 1} → statement M
 place-spec =
     tie.close
-    (tie.spec
-    enum-known-event
-    add-t14
-    enum-known-event-2
-    add-t15
-    enum-known-event-3
-    enum-told
-    enum-known-event-4
-    enum-known-event-5
-    returns
-    returns-2
-    returns-3
-    returns-4
-    returns-5
-    returns-6)
+    (tie.spec enum-known-event add-t9 enum-known-event-2 add-t10 returns returns-2 returns-3)

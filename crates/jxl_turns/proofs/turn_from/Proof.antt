@@ -1,103 +1,172 @@
-use mathlib.Core.Path.{_≡_, refl, sym, ap, _∙_, subst}
-use mathlib.Core.List.{List, [], _∷_, _++_}
-use Prim.Native.Nat.{ℕ, _+_, _-_, _≤_}
+use mathlib.Core.Path.{_≡_, sym, ap, _∙_}
+use mathlib.Core.List.{List}
+use Prim.Native.Nat.{ℕ, suc, _+_, _≤_}
 use native.Mathlib.Omega.{arith}
-use lib.ListN.{length, take, drop}
+use lib.ListN.{length, drop}
 use denote.Ref.{now}
 use borrow.Author.Needs.{needs}
-use Rattle.jxl_files.specs.declared.Held.{Held}
+use Rattle.jxl_container.specs.Record.{why}
+use Rattle.jxl_container.specs.Step.{shows, wants, refuses, stepOf, told}
+use Rattle.jxl_files.specs.Feeding.{Seen}
 use Rattle.jxl_listing.specs.Putting.{leaves}
 use Rattle.jxl_listing.specs.declared.Put.{Put}
-use Rattle.jxl_turns.specs.Listed.{nextOf}
-use Rattle.jxl_turns.specs.Turned.{behind, turnFrom}
-use Rattle.jxl_turns.specs.declared.Following.the-variants as N
-use Rattle.jxl_turns.proofs.Text.{count, following-shown}
-use Rattle.jxl_turns.proofs.Turning.{line-put, next-place, Going, going-first, going-on, going-full, going-stopped}
+use Rattle.jxl_listing.specs.declared.Stop.{Stop}
+use Rattle.jxl_turns.specs.Listed.{nextIn}
+use Rattle.jxl_turns.specs.Turned.{turnFrom}
+use Rattle.jxl_turns.specs.declared.AfterTurn.{AfterTurn}
+use Rattle.jxl_turns.specs.declared.End.the-variants as End
+use Rattle.jxl_turns.proofs.Text.{count, far, taken-shown, shown-fits, wants-fits, refuses-fits}
+use Rattle.jxl_turns.proofs.Turning.{leaving, Going, going-first, going-on, going-full, going-stopped}
 use Rattle.jxl_turns.proofs.turn_from.Statement.{statement}
 use Rattle.jxl_turns.proofs.turn_from.Tie as tie
 
 abbrev Inv-loop : tie.InvT-loop
-Inv-loop base input out₀ p₀ j₀ k₀ written₀ out p j k written = Going base input out₀ (turnFrom base input (length out₀) p₀ (j₀ .held) 0) out p (j .held) k written
+Inv-loop base input out₀ t₀ out t = Going base input out₀ (turnFrom base input (length out₀) (t₀ .parser) (t₀ .joiner .held) 0) out t
 
 abbrev μ-loop : tie.MeasureT-loop
-μ-loop base input out₀ p₀ j₀ k₀ written₀ out p j k written = count p k input
+μ-loop base input out₀ t₀ out t = count (t .parser) (t .consumed) input
+
+-- what the step told
+shown : (c : tie.After-next Inv-loop μ-loop) → let t = c .before .before .before .before .before .before .loop .t in
+    let n = c .next .given .0 in stepOf (t .parser) (drop (t .consumed) (now (c .before .before .before .before .before .before .before .before .before .args .input))) ≡ shows (n .1 .1 .0) (n .0) (n .1 .0)
+shown c =
+    let t = c .before .before .before .before .before .before .loop .t in
+    far (t .parser) (now (c .before .before .before .before .before .before .before .before .before .args .input)) (t .consumed) (c .before .before .before .before .before .before .loop .inv .inside) (c .before .before .step .ensures) (ap told (c .next .given .1))
+
+wanted : (c : tie.After-next2 Inv-loop μ-loop) → let t = c .before .before .before .before .before .before .loop .t in
+    let n = c .next2 .given .0 in stepOf (t .parser) (drop (t .consumed) (now (c .before .before .before .before .before .before .before .before .before .args .input))) ≡ wants (n .0) (n .1 .0)
+wanted c =
+    let t = c .before .before .before .before .before .before .loop .t in
+    far (t .parser) (now (c .before .before .before .before .before .before .before .before .before .args .input)) (t .consumed) (c .before .before .before .before .before .before .loop .inv .inside) (c .before .before .step .ensures) (ap told (c .next2 .given .1))
+
+refused : (c : tie.After-next3 Inv-loop μ-loop) → let t = c .before .before .before .before .before .before .loop .t in
+    let n = c .next3 .given .0 in stepOf (t .parser) (drop (t .consumed) (now (c .before .before .before .before .before .before .before .before .before .args .input))) ≡ refuses (why (n .1 .1 .0)) (n .0) (n .1 .0)
+refused c =
+    let t = c .before .before .before .before .before .before .loop .t in
+    far (t .parser) (now (c .before .before .before .before .before .before .before .before .before .args .input)) (t .consumed) (c .before .before .before .before .before .before .loop .inv .inside) (c .before .before .step .ensures) (ap told (c .next3 .given .1))
 
 loop-holds : tie.Need-loop-holds Inv-loop μ-loop
 loop-holds c =
     let a = c .before .before .args in
-    going-first (a .base) (now (a .input)) (now (a .out)) (a .parser) (a .joiner .held)
+    let p = c .before .before .pre in
+    going-first (a .base) (now (a .input)) (now (a .out)) (a .start) (p .0) (p .1) (p .2)
 
-next-requires : tie.Need-next-requires Inv-loop μ-loop
-next-requires c κs = c .loop .inv .inside
+sub-step : tie.Need-sub-step Inv-loop μ-loop
+sub-step c = search needs
 
-enum-known-event : tie.Need-enum-known-event Inv-loop μ-loop
-enum-known-event c = search needs
+part-step-start : tie.Need-part-step-start Inv-loop μ-loop
+part-step-start c = omega (arith, c .before .before .loop .inv .inside)
+
+part-step-end : tie.Need-part-step-end Inv-loop μ-loop
+part-step-end c = search needs
+
+step-requires : tie.Need-step-requires Inv-loop μ-loop
+step-requires c κs = search needs
+
+enum-known-next : tie.Need-enum-known-next Inv-loop μ-loop
+enum-known-next c = search needs
+
+add-place : tie.Need-add-place Inv-loop μ-loop
+add-place c = omega (arith, c .before .before .before .before .before .before .before .loop .inv .inside, c .before .before .before .before .before .before .before .before .before .before .pre .3)
 
 place-requires : tie.Need-place-requires Inv-loop μ-loop
 place-requires c κs =
-    let a = c .before .before .before .before .before .before .before .args in
-    let l = c .before .before .before .before .loop in
-    let n = c .before .event .given .0 in
-    let found : nextOf (l .p) (l .k) (drop (l .k) (now (a .input))) ≡ N.Shown (n .0) (n .1 .0) (n .1 .1 .0) = sym (c .before .before .before .next .ensures) ∙ c .before .event .given .1 in
-    omega (arith, c .before .before .before .before .before .before .before .pre, next-place (l .p) (now (a .input)) (l .k) (l .inv .inside) found)
+    let l = c .before .before .before .before .before .before .before .loop in
+    omega (arith, shown-fits (l .t .parser) (now (c .before .before .before .before .before .before .before .before .before .before .args .input)) (l .t .consumed) (l .inv .inside) (shown (c .before)) .0, c .before .before .before .before .before .before .before .before .before .before .pre .3)
 
 add-requires : tie.Need-add-requires Inv-loop μ-loop
-add-requires c κs = tt
+add-requires c κs = search needs
 
 put-held-requires : tie.Need-put-held-requires Inv-loop μ-loop
-put-held-requires c κs = c .before .before .before .before .before .before .before .loop .inv .room
+put-held-requires c κs = c .before .before .before .before .before .before .before .before .before .before .before .loop .inv .room
 
 enum-known-w : tie.Need-enum-known-w Inv-loop μ-loop
 enum-known-w c = search needs
 
+add-after : tie.Need-add-after Inv-loop μ-loop
+add-after c =
+    let l = c .before .before .before .before .before .before .before .before .before .before .before .before .before .before .before .before .before .loop in
+    omega (arith, shown-fits (l .t .parser) (now (c .before .before .before .before .before .before .before .before .before .before .before .before .before .before .before .before .before .before .before .before .args .input)) (l .t .consumed) (l .inv .inside) (shown (c .before .before .before .before .before .before .before .before .before .before .before)) .1, c .before .before .before .before .before .before .before .before .before .before .before .before .before .before .before .before .before .before .before .before .pre .3)
+
+after-requires : tie.Need-after-requires Inv-loop μ-loop
+after-requires c κs = search needs
+
 loop-less : tie.Need-loop-less Inv-loop μ-loop
 loop-less c =
-    let a = c .before .before .before .before .before .before .before .before .before .before .before .before .before .before .before .before .before .args in
-    let l = c .before .before .before .before .before .before .before .before .before .before .before .before .before .before .loop in
-    let n = c .before .before .before .before .before .before .before .before .before .before .before .event .given .0 in
-    let found : nextOf (l .p) (l .k) (drop (l .k) (now (a .input))) ≡ N.Shown (n .0) (n .1 .0) (n .1 .1 .0) = sym (c .before .before .before .before .before .before .before .before .before .before .before .before .before .next .ensures) ∙ c .before .before .before .before .before .before .before .before .before .before .before .event .given .1 in
-    omega (arith, following-shown (l .p) (now (a .input)) (l .k) (l .inv .inside) found .2)
+    let t = c .before .before .before .before .before .before .before .before .before .before .before .before .before .before .before .before .before .before .loop .t in
+    let s = now (c .before .before .before .before .before .before .before .before .before .before .before .before .before .before .before .before .before .before .before .before .before .args .input) in
+    let r = c .after .result in
+    let one : count (t .parser) (t .consumed) s ≡ suc (count (r .parser) (r .consumed) s) =
+    ap (λ (x : Seen). length (x .shown)) (taken-shown (t .parser) s (t .consumed) (shown (c .before .before .before .before .before .before .before .before .before .before .before .before)))
+    ∙ ap (λ (x : AfterTurn). suc (count (x .parser) (x .consumed) s)) (sym (c .after .ensures)) in
+    omega (arith, one)
 
 loop-again : tie.Need-loop-again Inv-loop μ-loop
 loop-again c =
-    let a = c .before .before .before .before .before .before .before .before .before .before .before .before .before .before .before .before .before .args in
-    let l = c .before .before .before .before .before .before .before .before .before .before .before .before .before .before .loop in
-    let n = c .before .before .before .before .before .before .before .before .before .before .before .event .given .0 in
-    let found : nextOf (l .p) (l .k) (drop (l .k) (now (a .input))) ≡ N.Shown (n .0) (n .1 .0) (n .1 .1 .0) = sym (c .before .before .before .before .before .before .before .before .before .before .before .before .before .next .ensures) ∙ c .before .before .before .before .before .before .before .before .before .before .before .event .given .1 in
+    let a = c .before .before .before .before .before .before .before .before .before .before .before .before .before .before .before .before .before .before .before .before .before .args in
+    let l = c .before .before .before .before .before .before .before .before .before .before .before .before .before .before .before .before .before .before .loop in
     let put = c .before .before .before .before .before .before .put-held in
-    let into = line-put (a .base) (l .j .held) (n .0) (c .before .before .before .before .before .before .before .before .before .place .result) (c .before .before .before .before .before .before .before .before .add .result) (l .out) (l .written) (c .before .before .before .before .before .before .before .before .before .place .ensures) (c .before .before .before .before .before .before .before .before .add .ensures) (ap (λ (r : Put). leaves r (put .last .0)) (sym (c .before .before .w .given .1)) ∙ put .ensures) in
-    subst (λ (h : Held). Going (a .base) (now (a .input)) (now (a .out)) (turnFrom (a .base) (now (a .input)) (length (now (a .out))) (a .parser) (a .joiner .held) 0) (put .last .0) (n .1 .0) h (n .1 .1 .0) (c .before .before .w .given .0 .0)) (into .1)
-    (going-on (a .base) (now (a .input)) (now (a .out)) _ (l .out) (l .p) (l .j .held) (l .k) (l .written) (l .inv) (put .last .0) found (into .0))
+    going-on (a .base) (now (a .input)) (now (a .out)) _ (l .out) (l .t) (l .inv) (shown (c .before .before .before .before .before .before .before .before .before .before .before .before)) (c .before .before .before .before .before .before .before .before .before .before .place .ensures) (c .before .before .before .before .before .before .before .before .before .add .ensures) (put .last .0)
+    (ap (λ (r : Put). leaves r (put .last .0)) (sym (c .before .before .w .given .1)) ∙ put .ensures) (c .after .ensures)
 
 enum-told : tie.Need-enum-told Inv-loop μ-loop
 enum-told c = search needs
 
 same-length : tie.Need-same-length Inv-loop μ-loop
-same-length c = c .before .before .before .before .put-held .kept .0 ∙ c .before .before .before .before .before .before .before .before .before .before .before .before .loop .inv .same
+same-length c = c .before .before .before .before .put-held .kept .0 ∙ c .before .before .before .before .before .before .before .before .before .before .before .before .before .before .before .before .loop .inv .same
 
 returns : tie.Need-returns Inv-loop μ-loop
 returns c =
-    let a = c .before .before .before .before .before .before .before .before .before .before .before .before .before .before .before .args in
-    let l = c .before .before .before .before .before .before .before .before .before .before .before .before .loop in
-    let n = c .before .before .before .before .before .before .before .before .before .event .given .0 in
-    let found : nextOf (l .p) (l .k) (drop (l .k) (now (a .input))) ≡ N.Shown (n .0) (n .1 .0) (n .1 .1 .0) = sym (c .before .before .before .before .before .before .before .before .before .before .before .next .ensures) ∙ c .before .before .before .before .before .before .before .before .before .event .given .1 in
+    let a = c .before .before .before .before .before .before .before .before .before .before .before .before .before .before .before .before .before .before .before .args in
+    let l = c .before .before .before .before .before .before .before .before .before .before .before .before .before .before .before .before .loop in
     let put = c .before .before .before .before .put-held in
-    let into = line-put (a .base) (l .j .held) (n .0) (c .before .before .before .before .before .before .before .place .result) (c .before .before .before .before .before .before .add .result) (l .out) (l .written) (c .before .before .before .before .before .before .before .place .ensures) (c .before .before .before .before .before .before .add .ensures) (ap (λ (r : Put). leaves r (put .last .0)) (sym (c .enum-told .given .1)) ∙ put .ensures) in
-    going-full (a .base) (now (a .input)) (now (a .out)) (turnFrom (a .base) (now (a .input)) (length (now (a .out))) (a .parser) (a .joiner .held) 0) (l .out) (l .p) (l .j .held) (l .k) (l .written) (l .inv) (put .last .0) (l .j) refl found (into .0) .0
+    going-full (a .base) (now (a .input)) (now (a .out)) (turnFrom (a .base) (now (a .input)) (length (now (a .out))) (a .start .parser) (a .start .joiner .held) 0) (l .out) (l .t) (l .inv) (shown (c .before .before .before .before .before .before .before .before .before .before)) (c .before .before .before .before .before .before .before .before .place .ensures) (c .before .before .before .before .before .before .before .add .ensures) (put .last .0)
+    (ap (λ (r : Put). leaves r (put .last .0)) (sym (c .enum-told .given .1)) ∙ put .ensures) .0
 
-enum-known-stop : tie.Need-enum-known-stop Inv-loop μ-loop
-enum-known-stop c = search needs
+enum-known-next-2 : tie.Need-enum-known-next-2 Inv-loop μ-loop
+enum-known-next-2 c = search needs
+
+add-after-2 : tie.Need-add-after-2 Inv-loop μ-loop
+add-after-2 c =
+    let l = c .before .before .before .before .before .before .before .loop in
+    omega (arith, wants-fits (l .t .parser) (now (c .before .before .before .before .before .before .before .before .before .before .args .input)) (l .t .consumed) (l .inv .inside) (wanted (c .before)), c .before .before .before .before .before .before .before .before .before .before .pre .3)
+
+after-requires-2 : tie.Need-after-requires-2 Inv-loop μ-loop
+after-requires-2 c κs = search needs
 
 same-length-2 : tie.Need-same-length-2 Inv-loop μ-loop
-same-length-2 c = c .before .before .before .before .loop .inv .same
+same-length-2 c = c .before .before .before .before .before .before .before .before .loop .inv .same
 
 returns-2 : tie.Need-returns-2 Inv-loop μ-loop
 returns-2 c =
-    let a = c .before .before .before .before .before .before .before .args in
-    let l = c .before .before .before .before .loop in
-    let n = c .before .stop .given .0 in
-    let found : nextOf (l .p) (l .k) (drop (l .k) (now (a .input))) ≡ N.Stopped (n .0) (n .1 .0) (n .1 .1 .0) = sym (c .before .before .before .next .ensures) ∙ c .before .stop .given .1 in
-    going-stopped (a .base) (now (a .input)) (now (a .out)) _ (l .out) (l .p) (l .j .held) (l .k) (l .written) (l .inv) (l .j) refl found
+    let a = c .before .before .before .before .before .before .before .before .before .before .before .args in
+    let l = c .before .before .before .before .before .before .before .before .loop in
+    going-stopped (a .base) (now (a .input)) (now (a .out)) _ (l .out) (l .t) (l .inv) (ap (nextIn (l .t .consumed)) (wanted (c .before .before))) (c .after2 .ensures)
+
+enum-known-next-3 : tie.Need-enum-known-next-3 Inv-loop μ-loop
+enum-known-next-3 c = search needs
+
+refused-requires : tie.Need-refused-requires Inv-loop μ-loop
+refused-requires c κs = search needs
+
+add-after-3 : tie.Need-add-after-3 Inv-loop μ-loop
+add-after-3 c =
+    let l = c .before .before .before .before .before .before .before .before .loop in
+    omega (arith, refuses-fits (l .t .parser) (now (c .before .before .before .before .before .before .before .before .before .before .before .args .input)) (l .t .consumed) (l .inv .inside) (refused (c .before .before)), c .before .before .before .before .before .before .before .before .before .before .before .pre .3)
+
+after-requires-3 : tie.Need-after-requires-3 Inv-loop μ-loop
+after-requires-3 c κs = search needs
+
+same-length-3 : tie.Need-same-length-3 Inv-loop μ-loop
+same-length-3 c = c .before .before .before .before .before .before .before .before .before .loop .inv .same
+
+returns-3 : tie.Need-returns-3 Inv-loop μ-loop
+returns-3 c =
+    let a = c .before .before .before .before .before .before .before .before .before .before .before .before .args in
+    let n = c .before .before .before .next3 .given .0 in
+    let l = c .before .before .before .before .before .before .before .before .before .loop in
+    going-stopped (a .base) (now (a .input)) (now (a .out)) _ (l .out) (l .t) (l .inv) (ap (nextIn (l .t .consumed)) (refused (c .before .before .before)))
+    (c .after3 .ensures ∙ ap (λ (x : Stop). leaving (n .0) (l .t .joiner) (l .t .consumed + n .1 .0) (l .t .written) (End.Stopped x)) (c .before .refused .ensures))
 
 pub turn-from-spec : {M : Type 1} → statement M
 turn-from-spec =
@@ -106,17 +175,31 @@ turn-from-spec =
     Inv-loop
     μ-loop
     loop-holds
-    next-requires
-    enum-known-event
+    sub-step
+    part-step-start
+    part-step-end
+    step-requires
+    enum-known-next
+    add-place
     place-requires
     add-requires
     put-held-requires
     enum-known-w
+    add-after
+    after-requires
     loop-less
     loop-again
     enum-told
     same-length
     returns
-    enum-known-stop
+    enum-known-next-2
+    add-after-2
+    after-requires-2
     same-length-2
-    returns-2)
+    returns-2
+    enum-known-next-3
+    refused-requires
+    add-after-3
+    after-requires-3
+    same-length-3
+    returns-3)
