@@ -43,7 +43,7 @@ enum Held {
 pub struct Lines {
     pub out: Vec<u8>,
     room: usize,
-    written: u64,
+    written: usize,
     held: Held,
 }
 
@@ -64,7 +64,7 @@ impl Lines {
     /// Starts a line with its first word.
     fn word(&mut self, word: &[u8]) {
         if self.out.len() + LONGEST > self.room {
-            self.written += self.out.len() as u64;
+            self.written += self.out.len();
             self.out.clear();
         }
         self.out.extend_from_slice(word);
@@ -166,7 +166,7 @@ impl Lines {
 
 /// The listing of a file: how many bytes its lines have. As after the last turn of the proved one, the newest event is still
 /// held where it is a payload, and there is no stop line.
-pub fn listing(file: &[u8], packet: usize, lines: &mut Lines) -> u64 {
+pub fn listing(file: &[u8], packet: usize, lines: &mut Lines) -> usize {
     lines.out.clear();
     (lines.written, lines.held) = (0, Held::Nothing);
     feed(file, packet, |event, base, input| {
@@ -179,5 +179,5 @@ pub fn listing(file: &[u8], packet: usize, lines: &mut Lines) -> u64 {
             event => lines.other(event),
         }
     });
-    lines.written + lines.out.len() as u64
+    lines.written + lines.out.len()
 }

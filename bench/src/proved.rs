@@ -14,7 +14,7 @@ mod linked {
             out: *mut u8,
             room: usize,
             most: u64,
-        ) -> u64;
+        ) -> usize;
         pub fn bench_read_bits(bytes: *const u8, len: usize, count: u64) -> u64;
         pub fn bench_peek(bytes: *const u8, len: usize, count: u64) -> u64;
         pub fn bench_skip(bytes: *const u8, len: usize, count: u64) -> u64;
@@ -37,8 +37,8 @@ pub fn twice(file: &[u8], packet: usize) -> u64 {
     unsafe { linked::bench_twice(file.as_ptr(), file.len(), packet, MOST) }
 }
 
-/// The lines of a file: how many bytes they have. `out` holds the newest of them.
-pub fn turns(file: &[u8], packet: usize, out: &mut [u8]) -> u64 {
+/// The lines of a file: how many bytes they have. Where `out` has room for all of them, they stand there.
+pub fn turns(file: &[u8], packet: usize, out: &mut [u8]) -> usize {
     let (from, room) = (out.as_mut_ptr(), out.len());
     unsafe { linked::bench_turns(file.as_ptr(), file.len(), packet, from, room, MOST) }
 }

@@ -12,39 +12,38 @@ fn is_full(end: End) -> bool {
     }
 }
 
-// The place `at`, or the front where it lies outside.
-fn inside(at: usize, len: usize) -> usize
+// Where the next lines go: behind those written, while there is room for a line; from then on to the front.
+fn place(written: usize, len: usize) -> usize
     ensures { λ r. ⌜ r ≤ len ⌝ }
 {
-    if at <= len { at } else { 0 }
+    if len < 64 {
+        return 0;
+    }
+    if written <= len - 64 { written } else { 0 }
 }
 
-// The lines of a file given in packets, each behind the bytes left unread: how many bytes they have. They go to `out` one behind
-// the other, and to its front again where it is full. A proved loop has to end: after `most` turns.
+// The lines of a file given in packets, each behind the bytes left unread: how many bytes they have. Where `out` has room for
+// all of them, they stand there one behind the other. A proved loop has to end: after `most` turns.
 #[no_mangle]
-pub extern "C" fn bench_turns(file: &[u8], packet: usize, out: &mut [u8], most: u64) -> u64 {
+pub extern "C" fn bench_turns(file: &[u8], packet: usize, out: &mut [u8], most: u64) -> usize {
     let mut parser = ContainerParser::new();
     let mut joiner = Joiner::new();
     let mut at = 0;
     let mut end = bench_parts::packet_end(0, packet, file.len());
-    let mut filled = 0;
-    let mut written: u64 = 0;
+    let mut written = 0;
     let mut turns: u64 = 0;
     while turns < most {
         turns += 1;
-        let from = inside(filled, out.len());
+        let from = place(written, out.len());
         let input = bench_parts::part(file, at, end);
         let after = jxl_turns::turn(parser, joiner, at, input, &mut out[from..]);
         at = std::num::wrapping_add_usize(at, after.consumed);
-        written = std::num::wrapping_add_u64(written, after.written as u64);
+        written = std::num::wrapping_add_usize(written, after.written);
         let why = after.end;
-        if is_full(why) {
-            filled = 0;
-        } else {
+        if !is_full(why) {
             if end == file.len() {
                 return written;
             }
-            filled = std::num::wrapping_add_usize(from, after.written);
             end = bench_parts::packet_end(end, packet, file.len());
         }
         let next = after.parser;

@@ -8,11 +8,11 @@ use Rattle.bench_turns.proofs.bench_turns.Statement.{statement}
 use Rattle.bench_turns.proofs.bench_turns.Tie as tie
 
 abbrev Inv-loop : tie.InvT-loop
-Inv-loop file packet out₀ most parser₀ joiner₀ at₀ end₀ filled₀ written₀ turns₀ out parser joiner at end filled written turns =
+Inv-loop file packet out₀ most parser₀ joiner₀ at₀ end₀ written₀ turns₀ out parser joiner at end written turns =
     length out ≡ length out₀
 
 abbrev μ-loop : tie.MeasureT-loop
-μ-loop file packet out₀ most parser₀ joiner₀ at₀ end₀ filled₀ written₀ turns₀ out parser joiner at end filled written turns =
+μ-loop file packet out₀ most parser₀ joiner₀ at₀ end₀ written₀ turns₀ out parser joiner at end written turns =
     most - turns
 
 pub bench-turns-spec : {M : Type 1} → statement M
@@ -21,7 +21,6 @@ bench-turns-spec =
     (tie.spec
     Inv-loop
     μ-loop
-    (search needs)
     (search needs)
     (search needs)
     (search needs)
