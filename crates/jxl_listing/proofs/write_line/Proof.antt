@@ -1,3 +1,5 @@
+use native.Mathlib.Omega.{arith}
+use Rattle.jxl_listing.proofs.Sizes.{data-size}
 use borrow.Author.Needs.{needs}
 use Rattle.jxl_listing.proofs.write_line.Statement.{statement}
 use Rattle.jxl_listing.proofs.write_line.Tie as tie
@@ -18,7 +20,7 @@ slice-aggregate-copy-in : tie.Need-slice-aggregate-copy-in
 slice-aggregate-copy-in c = search needs
 
 copy-in-requires : tie.Need-copy-in-requires
-copy-in-requires c κs = rw (c .before .before .before .before .before .line .given .1, c .before .before .enum-told .given .1) at (c .before .before .before .before .before .before .before .before .pre)
+copy-in-requires c κs = omega (arith, rw (c .before .before .before .before .before .line .given .1, c .before .before .enum-told .given .1) at (c .before .before .before .before .before .before .before .before .pre))
 
 enum-known-event-2 : tie.Need-enum-known-event-2
 enum-known-event-2 c = search needs
@@ -36,7 +38,7 @@ enum-known-event-4 : tie.Need-enum-known-event-4
 enum-known-event-4 c = search needs
 
 data-line-requires : tie.Need-data-line-requires
-data-line-requires c κs = rw (c .before .before .before .before .before .line .given .1, c .before .before .event4 .given .1) at (c .before .before .before .before .before .before .before .before .pre)
+data-line-requires c κs = rw data-size (omega (arith, rw (c .before .before .before .before .before .line .given .1, c .before .before .event4 .given .1, data-size) at (c .before .before .before .before .before .before .before .before .pre)))
 
 enum-known-event-5 : tie.Need-enum-known-event-5
 enum-known-event-5 c = search needs

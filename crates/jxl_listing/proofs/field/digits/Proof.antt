@@ -1,6 +1,6 @@
 -- The loop's invariant: the digits counted and those of what is left are the digits of the number, and one more.
 use mathlib.Core.Path.{_≡_, ap}
-use Prim.Native.Nat.{_+_, _<_, _^_}
+use Prim.Native.Nat.{_+_}
 use native.Mathlib.Omega.{arith}
 use lib.ListN.{length}
 use Rattle.jxl_listing.specs.Digits.{decimal}
@@ -9,7 +9,7 @@ use Rattle.jxl_listing.proofs.field.digits.Statement.{statement}
 use Rattle.jxl_listing.proofs.field.digits.Tie as tie
 
 abbrev Inv-loop : tie.InvT-loop
-Inv-loop n count₀ rest₀ count rest = (count + length (decimal rest) ≡ length (decimal n) + 1) × (rest < 2 ^ 64)
+Inv-loop n count₀ rest₀ count rest = count + length (decimal rest) ≡ length (decimal n) + 1
 
 abbrev μ-loop : tie.MeasureT-loop
 μ-loop n count₀ rest₀ count rest = rest
@@ -24,10 +24,10 @@ loop-less : tie.Need-loop-less Inv-loop μ-loop
 loop-less c = omega arith
 
 loop-again : tie.Need-loop-again Inv-loop μ-loop
-loop-again c = omega (arith, decimal-longer _ (c .loop-test .taken))
+loop-again c = omega (arith, decimal-longer (c .before .loop .rest) (omega arith))
 
 returns : tie.Need-returns Inv-loop μ-loop
-returns c = omega (arith, ap length (decimal-small _ (c .loop-test .left)), decimal-most _ (c .before .before .fits .n .fits))
+returns c = omega (arith, ap length (decimal-small (c .before .loop .rest) (omega arith)), decimal-most _ (c .before .before .fits .n .fits))
 
 pub digits-spec : {M : Type 1} → statement M
 digits-spec =
