@@ -3,6 +3,7 @@
 
 extern crate jxl_bitstream; // found in the folder that build.rs tells of
 
+mod bits;
 mod boxes;
 mod fields;
 mod files;
@@ -57,7 +58,8 @@ fn main() -> ExitCode {
     rows.retain(|row| row.name.contains(&word));
     let missed = print(&mut rows, runs.max(1));
     if !grow {
-        eprintln!("{missed} of {} rows missed their bar", rows.len());
+        let bars = rows.iter().filter(|row| row.bar.is_some()).count();
+        eprintln!("{missed} of {bars} bars missed");
     }
     if check && missed > 0 {
         ExitCode::FAILURE

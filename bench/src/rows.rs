@@ -1,5 +1,6 @@
 //! The rows of the table, and their bars.
 
+use crate::bits::{self, Order};
 use crate::boxes::{self, Lines};
 use crate::files::{self, MIXED_BOXES};
 use crate::timing::Row;
@@ -139,13 +140,10 @@ fn on_boxes() -> Vec<Row> {
     rows
 }
 
-/// The field readers.
-fn on_fields() -> Vec<Row> {
-    let (field, header) = (("field", FIELDS), ("header", HEADERS));
-    let any = fields::any_bytes(FIELDS);
-    let enums = fields::enum_bytes(FIELDS);
-    let floats = fields::f16_bytes(FIELDS);
-    let headers = fields::header_bytes(HEADERS);
+/// The field readers whose way does not hang on what they read.
+fn on_bits() -> Vec<Row> {
+    let field = ("field", FIELDS);
+    let any = bits::any(FIELDS);
     let peek = "peek_bits and consume_bits";
     vec![
         reading(
@@ -157,25 +155,53 @@ fn on_fields() -> Vec<Row> {
         ),
         reading(peek, field, any.clone(), proved::peek, fields::peek),
         reading("skip_bits", field, any.clone(), proved::skip, fields::skip),
-        reading("read_bool", field, any.clone(), proved::bool, fields::bool),
-        reading("read_u32", field, any.clone(), proved::u32, fields::u32),
-        reading("read_u64", field, any, proved::u64, fields::u64),
+        reading("read_bool", field, any, proved::bool, fields::bool),
+    ]
+}
+
+/// The other field readers, with selectors in one of the two orders.
+fn on_fields(order: Order) -> Vec<Row> {
+    let (field, header) = (("field", FIELDS), ("header", HEADERS));
+    let name = |name: &str| match order {
+        Order::Random => name.to_string(),
+        Order::InTurn => format!("{name}, selectors in turn"),
+    };
+    let (u32s, u64s) = (bits::u32(order, FIELDS), bits::u64(order, FIELDS));
+    let (enums, floats) = (bits::enumerated(order, FIELDS), bits::f16(order, FIELDS));
+    let headers = bits::header(order, HEADERS);
+    vec![
+        reading(&name("read_u32"), field, u32s, proved::u32, fields::u32),
+        reading(&name("read_u64"), field, u64s, proved::u64, fields::u64),
         reading(
-            "read_enum",
+            &name("read_enum"),
             field,
             enums,
             proved::enumerated,
             fields::enumerated,
         ),
-        reading("read_f16_as_f32", field, floats, proved::f16, fields::f16),
-        reading("headers", header, headers, proved::header, fields::header),
+        reading(
+            &name("read_f16_as_f32"),
+            field,
+            floats,
+            proved::f16,
+            fields::f16,
+        ),
+        reading(
+            &name("headers"),
+            header,
+            headers,
+            proved::header,
+            fields::header,
+        ),
     ]
 }
 
-/// The rows that have bars: each bar has its row.
+/// All rows; each bar has its row.
 pub fn table() -> Vec<Row> {
     let mut rows = on_boxes();
-    rows.extend(on_fields());
+    rows.extend(on_bits());
+    rows.extend(on_fields(Order::Random));
+    rows.extend(on_fields(Order::InTurn));
     assert_eq!(
         rows.iter().filter(|row| row.bar.is_some()).count(),
         BARS.len()
