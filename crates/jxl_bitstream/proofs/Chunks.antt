@@ -10,12 +10,14 @@ use borrow.Author.Tests.{eq-eqb, ne-eqb}
 use lib.Arith.{digits-lt}
 use lib.Bits.{bitOr, or-shifted-r}
 use lib.Dec.{eqb}
-use lib.ListN.{length, drop}
+use lib.ListN.{length, getD, drop}
 use lib.Pow.{pow-add, shl-exact}
 use Rattle.jxl_bitstream.specs.Answer.{Field, gives, refuses, _>>=_, done}
+use Rattle.jxl_bitstream.specs.Bits.{end}
 use Rattle.jxl_bitstream.specs.Fields.{begin, part, chunks, places, plus, u64By, u64}
 use Rattle.jxl_bitstream.specs.Refusals.{eof}
 use Rattle.jxl_bitstream.specs.Theorems.{AtMost73}
+use Rattle.jxl_bitstream.proofs.Choices.{no-bits}
 use Rattle.jxl_bitstream.proofs.Parts.{begun, gave, given}
 
 -- the places in turn
@@ -67,6 +69,40 @@ module _ (v x j k : ℕ) (hv : v < 2 ^ k) (hx : x < 2 ^ j) where
 
   pub placed-below : v + x * 2 ^ k < 2 ^ (j + k)
   placed-below = rw (pow-add 2 j k, add-comm v (x * 2 ^ k)) (digits-lt hx hv)
+
+-- ---- the selectors
+three : (P : ℕ → Type 0) → P 0 → P 1 → P 2 → (k : ℕ) → k ≤ 2 → P k
+three P a b c zero h = a
+three P a b c (suc zero) h = b
+three P a b c (suc (suc zero)) h = c
+three P a b c (suc (suc (suc k))) h = absurd (omega arith)
+
+-- 3, and what no selector is
+pub by-chunks : (k : ℕ) → 2 < k → (s : List ℕ) (at : ℕ) → u64By k s at ≡ (part 12 >>= λ x. chunks places x) s at
+by-chunks k h s at = rw (ne-eqb k 0 (λ e. omega arith), ne-eqb k 1 (λ e. omega arith), ne-eqb k 2 (λ e. omega arith))
+
+abbrev shortWidths : List ℕ
+shortWidths = 0 ∷ 4 ∷ 8 ∷ []
+
+abbrev shortOffsets : List ℕ
+shortOffsets = 0 ∷ 1 ∷ 17 ∷ []
+
+-- the others, as the code computes them
+module _ (k : ℕ) (h : k ≤ 2) where
+  pub width-two : k ≡ 2 → 8 ≡ getD shortWidths k 0
+  width-two e = rw e
+
+  pub width-less : (k ≡ 2 → ⊥) → 4 * k ≡ getD shortWidths k 0
+  width-less = three (λ k. (k ≡ 2 → ⊥) → 4 * k ≡ getD shortWidths k 0) (λ n. refl) (λ n. refl) (λ n. absurd (n refl)) k h
+
+  pub offset-two : k ≡ 2 → 17 ≡ getD shortOffsets k 0
+  offset-two e = rw e
+
+  pub offset-less : (k ≡ 2 → ⊥) → k ≡ getD shortOffsets k 0
+  offset-less = three (λ k. (k ≡ 2 → ⊥) → k ≡ getD shortOffsets k 0) (λ n. refl) (λ n. refl) (λ n. absurd (n refl)) k h
+
+  pub by-plus : (s : List ℕ) (at : ℕ) → at ≤ end s → plus (getD shortWidths k 0) (getD shortOffsets k 0) s at ≡ u64By k s at
+  by-plus s at l = three (λ k. plus (getD shortWidths k 0) (getD shortOffsets k 0) s at ≡ u64By k s at) (rw (no-bits s at l)) refl refl k h
 
 -- ---- U64 takes at most 73 bits
 same-place : {A : Type 0} {a b : A} {p q : ℕ} → gives a p ≡ gives b q → p ≡ q

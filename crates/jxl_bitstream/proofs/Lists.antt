@@ -1,20 +1,24 @@
 -- Membership in the rest of a list.
 -- Assumes nothing.
-use mathlib.Core.Bool.{true}
+use mathlib.Core.Bool.{Bool, true, false, _||_}
 use mathlib.Core.List.{List}
-use mathlib.Core.Path.{_≡_}
-use Prim.Native.Nat.{ℕ, _+_, _<_}
+use mathlib.Core.Path.{_≡_, refl}
+use Prim.Native.Nat.{ℕ, _+_, _≤_, _<_}
 use native.Mathlib.Numerals.{add-one}
-use borrow.Author.Tests.{eq-eqb, ne-eqb}
-use lib.ListN.{length, getD, drop}
+use lib.Dec.{eqb}
+use lib.ListN.{length, getD, drop, drop-of-length-le}
 use lib.Seq.{drop-cons}
 use Rattle.jxl_bitstream.specs.Fields.{member}
 
-module _ (v : ℕ) (l : List ℕ) (i : ℕ) (h : i < length l) where
-  pub here : getD l i 0 ≡ v → member v (drop i l) ≡ true
+module _ (v : ℕ) (l : List ℕ) (i : ℕ) where
+  -- one element more
+  pub passed : i < length l → (found : Bool) → (found || eqb (getD l i 0) v) || member v (drop (i + 1) l) ≡ found || member v (drop i l)
   unfolding member
-  here e = rw (drop-cons l i 0 h, eq-eqb (getD l i 0) v e)
+  passed h true = refl
+  passed h false = rw (add-one, drop-cons l i 0 h)
 
-  pub further : (getD l i 0 ≡ v → ⊥) → member v (drop (i + 1) l) ≡ member v (drop i l)
+  -- all of them
+  pub all-passed : length l ≤ i → (found : Bool) → found || member v (drop i l) ≡ found
   unfolding member
-  further n = rw (add-one, drop-cons l i 0 h, ne-eqb (getD l i 0) v n)
+  all-passed h true = refl
+  all-passed h false = rw (drop-of-length-le l h)

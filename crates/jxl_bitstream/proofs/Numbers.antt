@@ -1,4 +1,4 @@
--- The buffer as one number: its parts, and the five bytes in which any 32 bits lie.
+-- The buffer as one number: its parts, and the eight bytes in which any 32 bits lie.
 -- Assumes nothing.
 use mathlib.Core.List.{List, [], _∷_}
 use mathlib.Core.Path.{_≡_, refl, sym, ap, _∙_}
@@ -42,15 +42,15 @@ step s h p pos i j e =
     let high : number (drop i s) / 256 ≡ m = omega arith in
     mod-mul (number (drop i s)) pos (lit< tt) ∙ rw high (omega arith)
 
--- five bytes, the first lowest
-pub five : (s : List ℕ) → Bytes s → (i : ℕ)
-    → number (drop i s) % 2 ^ 40 ≡ getD s i 0 + 256 * (getD s (i + 1) 0 + 256 * (getD s (i + 2) 0 + 256 * (getD s (i + 3) 0 + 256 * getD s (i + 4) 0)))
-five s h i =
-    step s h (2 ^ 32) (lit< tt) i (i + 1) (omega arith)
-    ∙ rw (step s h (2 ^ 24) (lit< tt) (i + 1) (i + 2) (omega arith), step s h (2 ^ 16) (lit< tt) (i + 2) (i + 3) (omega arith), step s h (2 ^ 8) (lit< tt) (i + 3) (i + 4) (omega arith), last)
+-- eight bytes, the first lowest
+pub eight : (s : List ℕ) → Bytes s → (i : ℕ)
+    → number (drop i s) % 2 ^ 64 ≡ getD s i 0 + 256 * (getD s (i + 1) 0 + 256 * (getD s (i + 2) 0 + 256 * (getD s (i + 3) 0 + 256 * (getD s (i + 4) 0 + 256 * (getD s (i + 5) 0 + 256 * (getD s (i + 6) 0 + 256 * getD s (i + 7) 0))))))
+eight s h i =
+    step s h (2 ^ 56) (lit< tt) i (i + 1) (omega arith)
+    ∙ rw (step s h (2 ^ 48) (lit< tt) (i + 1) (i + 2) (omega arith), step s h (2 ^ 40) (lit< tt) (i + 2) (i + 3) (omega arith), step s h (2 ^ 32) (lit< tt) (i + 3) (i + 4) (omega arith), step s h (2 ^ 24) (lit< tt) (i + 4) (i + 5) (omega arith), step s h (2 ^ 16) (lit< tt) (i + 5) (i + 6) (omega arith), step s h (2 ^ 8) (lit< tt) (i + 6) (i + 7) (omega arith), last)
   where
-    last : number (drop (i + 4) s) % 2 ^ 8 ≡ getD s (i + 4) 0
-    last = omega (arith, step s h 1 (lit< tt) (i + 4) (i + 5) (omega arith))
+    last : number (drop (i + 7) s) % 2 ^ 8 ≡ getD s (i + 7) 0
+    last = omega (arith, step s h 1 (lit< tt) (i + 7) (i + 8) (omega arith))
 
 -- a remainder keeps the bits below it
 pub cut : (x w j n : ℕ) → j + n ≤ w → x % 2 ^ w / 2 ^ j % 2 ^ n ≡ x / 2 ^ j % 2 ^ n
@@ -71,10 +71,10 @@ bits-from s h at n =
     ∙ ap (λ (y : ℕ). y % 2 ^ n) (shr-shr (number s) (8 * (at / 8)) (at % 8))
     ∙ ap (λ (k : ℕ). number s / 2 ^ k % 2 ^ n) whole
 
--- up to 32 of them lie in five bytes
-pub from-five : (s : List ℕ) → Bytes s → (at n : ℕ) → n ≤ 32
-    → number (drop (at / 8) s) % 2 ^ 40 / 2 ^ (at % 8) % 2 ^ n ≡ bits s at n
-from-five s h at n small = cut (number (drop (at / 8) s)) 40 (at % 8) n (omega arith) ∙ bits-from s h at n
+-- up to 32 of them lie in eight bytes
+pub from-eight : (s : List ℕ) → Bytes s → (at n : ℕ) → n ≤ 32
+    → number (drop (at / 8) s) % 2 ^ 64 / 2 ^ (at % 8) % 2 ^ n ≡ bits s at n
+from-eight s h at n small = cut (number (drop (at / 8) s)) 64 (at % 8) n (omega arith) ∙ bits-from s h at n
 
 -- the mask of n ones
 pub one-at : (n : ℕ) → n ≤ 32 → 1 * 2 ^ n % 2 ^ 64 ≡ 2 ^ n

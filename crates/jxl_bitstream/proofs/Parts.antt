@@ -13,7 +13,7 @@ use lib.Pow.{pow-pos}
 use Rattle.jxl_bitstream.specs.Answer.{Answer, Field, onward, gives, refuses}
 use Rattle.jxl_bitstream.specs.Bits.{number, bits, end, start}
 use Rattle.jxl_bitstream.specs.Fields.{begin, part}
-use Rattle.jxl_bitstream.specs.Ready.{Ready}
+use Rattle.jxl_bitstream.specs.Inside.{Ready}
 use Rattle.jxl_bitstream.specs.Refusals.{eof, width, long}
 
 abbrev Absurd : Type 0

@@ -4,7 +4,7 @@
 use mathlib.Core.Bool.{Bool, true, false}
 use mathlib.Core.List.{List}
 use mathlib.Core.Path.{_≡_, refl, sym, ap, _∙_}
-use Prim.Native.Nat.{ℕ, _+_, _-_, _*_, _^_, _≤_}
+use Prim.Native.Nat.{ℕ, _+_, _-_, _^_, _≤_}
 use native.Mathlib.Nat.{min-eq-left}
 use native.Mathlib.Omega.{arith}
 use borrow.Author.Tests.{le-ltb, le-leb, ltb-false}
@@ -13,7 +13,7 @@ use lib.ListN.{length}
 use Rattle.jxl_bitstream.specs.Answer.{Answer, gives, refuses, _>>=_, done}
 use Rattle.jxl_bitstream.specs.Bits.{bits, end, start}
 use Rattle.jxl_bitstream.specs.Fields.{over, begin, part, read, peek, consume, move}
-use Rattle.jxl_bitstream.specs.Theorems.{Reads, ReadGave, ReadGives, ReadRead, PeekConsume}
+use Rattle.jxl_bitstream.specs.Theorems.{ReadGave, ReadGives, ReadRead, PeekConsume}
 use Rattle.jxl_bitstream.proofs.Order.{together}
 use Rattle.jxl_bitstream.proofs.Parts.{begun, given, gave}
 

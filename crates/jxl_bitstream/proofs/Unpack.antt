@@ -5,12 +5,12 @@ use Prim.Native.Nat.{ℕ, suc, _+_, _-_, _*_, _/_, _%_, _^_, _<_, _≤_}
 use native.Mathlib.Omega.{arith}
 use native.Mathlib.Nat.{mod-eq-of-lt}
 use lib.Dec.{eqb, lit≤}
-use lib.IntN.{ℤ, pos, negsuc, negℤ, _-ℤ_}
+use lib.IntN.{pos, negℤ, _-ℤ_}
 use lib.Signed.{mag}
 use lib.Bits.{bitAnd, bitXor, and-mask, xor-zero-r, xor-add-and}
 use borrow.Author.Tests.{eqb-true, eqb-false}
 use mir.Syntax.{Width, w8, w16, w32, w64, w128}
-use mir.Val.{SFits, toZ, ofZ, bits, hbits}
+use mir.Val.{SFits, toZ, bits, hbits}
 use mir.ValLaws.{toZ-pos, toZ-neg, pow-bits}
 use Rattle.jxl_bitstream.specs.Theorems.{flipped, Unpacks}
 use Rattle.jxl_bitstream.specs.UnpackSigned.{unpacked}

@@ -5,5 +5,5 @@ pub mod Told
 pub mod Bits
 pub mod Half
 pub mod Fields
-pub mod Ready
+pub mod Inside
 pub mod Theorems

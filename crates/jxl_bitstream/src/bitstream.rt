@@ -7,7 +7,7 @@ ghost use lib.ListN.{getD, drop};
 ghost use Rattle.jxl_bitstream.specs.Bits.{number, bits};
 ghost use Rattle.jxl_bitstream.specs.Half.{exponent, magnitude, pattern};
 ghost use Rattle.jxl_bitstream.specs.Fields as F;
-ghost use Rattle.jxl_bitstream.specs.Ready.{Ready};
+ghost use Rattle.jxl_bitstream.specs.Inside.{Ready, widthOf, offsetOf, anyOver, selectOf};
 ghost use Rattle.jxl_bitstream.specs.Told.{toldU32, toldU64, toldBool, toldF16, toldMoved};
 
 pub enum Refusal {
@@ -77,31 +77,46 @@ fn byte_or_zero(s: &[u8], i: usize) -> u8
     if i < s.len() { s[i] } else { 0 }
 }
 
-// Five bytes as one number, the first lowest.
-fn joined(a: u8, b: u8, c: u8, d: u8, e: u8) -> u64
-    ensures { λ r. ⌜ r ≡ a + 256 * (b + 256 * (c + 256 * (d + 256 * e))) ⌝ }
+// Eight bytes as one number, the first lowest.
+fn joined(a: u8, b: u8, c: u8, d: u8, e: u8, f: u8, g: u8, h: u8) -> u64
+    ensures { λ r. ⌜ r ≡ a + 256 * (b + 256 * (c + 256 * (d + 256 * (e + 256 * (f + 256 * (g + 256 * h)))))) ⌝ }
 {
     (a as u64)
         + 0x100 * (b as u64)
         + 0x1_0000 * (c as u64)
         + 0x100_0000 * (d as u64)
         + 0x1_0000_0000 * (e as u64)
+        + 0x100_0000_0000 * (f as u64)
+        + 0x1_0000_0000_0000 * (g as u64)
+        + 0x100_0000_0000_0000 * (h as u64)
 }
 
-// The five bytes at `i`, those beyond the end as 0.
+// The eight bytes at `i`, those beyond the end as 0. Five would do; eight are one load.
 fn window(s: &[u8], i: usize) -> u64
     requires { ⌜ i < 2 ^ 62 ⌝ }
-    ensures { λ r. ⌜ r ≡ number (drop i (now (s .entry))) % 2 ^ 40 ⌝ }
+    ensures { λ r. ⌜ r ≡ number (drop i (now (s .entry))) % 2 ^ 64 ⌝ }
 {
-    if i + 5 <= s.len() {
-        joined(s[i], s[i + 1], s[i + 2], s[i + 3], s[i + 4])
+    if i + 8 <= s.len() {
+        joined(
+            s[i],
+            s[i + 1],
+            s[i + 2],
+            s[i + 3],
+            s[i + 4],
+            s[i + 5],
+            s[i + 6],
+            s[i + 7],
+        )
     } else {
         let a = byte_or_zero(s, i);
         let b = byte_or_zero(s, i + 1);
         let c = byte_or_zero(s, i + 2);
         let d = byte_or_zero(s, i + 3);
         let e = byte_or_zero(s, i + 4);
-        joined(a, b, c, d, e)
+        let f = byte_or_zero(s, i + 5);
+        let g = byte_or_zero(s, i + 6);
+        let h = byte_or_zero(s, i + 7);
+        joined(a, b, c, d, e, f, g, h)
     }
 }
 
@@ -223,74 +238,63 @@ pub fn read_bool(s: &[u8], at: usize) -> ReadBool
     }
 }
 
-// Whether a choice asks over 32 bits.
-fn over(d: U32Specifier) -> bool
-    ensures { λ r. ⌜ r ≡ F.wide d ⌝ }
+// A choice is read as an offset and a width, a constant as an offset with no bits: so which kind it is takes no jump.
+fn width_of(d: U32Specifier) -> usize
+    ensures { λ r. ⌜ r ≡ widthOf d ⌝ }
 {
     match d {
-        U32Specifier::Constant(_) => false,
-        U32Specifier::BitsOffset(_, n) => 32 < n,
+        U32Specifier::Constant(_) => 0,
+        U32Specifier::BitsOffset(_, n) => n,
     }
 }
 
-fn any_over(d: [U32Specifier; 4]) -> bool
-    ensures { λ r. ⌜ r ≡ F.anyWide d ⌝ }
-{
-    let a = d[0];
-    if over(a) {
-        return true;
-    }
-    let b = d[1];
-    if over(b) {
-        return true;
-    }
-    let c = d[2];
-    if over(c) {
-        return true;
-    }
-    let e = d[3];
-    over(e)
-}
-
-// A choice's value: its constant, or its offset and as many bits as its width.
-fn choice(s: &[u8], at: usize, d: U32Specifier) -> ReadU32
-    requires { ⌜ Ready (now s) at 0 ⌝ }
-    requires { ⌜ F.wide d ≡ false ⌝ }
-    ensures { λ r. ⌜ toldU32 r ≡ F.choice d (now (s .entry)) at ⌝ }
+fn offset_of(d: U32Specifier) -> u32
+    ensures { λ r. ⌜ r ≡ offsetOf d ⌝ }
 {
     match d {
-        U32Specifier::Constant(c) => ReadU32::Value(c, at),
-        U32Specifier::BitsOffset(offset, n) => {
-            let ReadU32::Value(x, next) = part(s, at, n) else {
-                return ReadU32::Refused(Refusal::UnexpectedEof, at);
-            };
-            ReadU32::Value(std::num::wrapping_add_u32(x, offset), next)
-        }
+        U32Specifier::Constant(c) => c,
+        U32Specifier::BitsOffset(offset, _) => offset,
     }
+}
+
+// Whether one of the widths is over 32 bits.
+fn any_over(widths: [usize; 4]) -> bool
+    ensures { λ r. ⌜ r ≡ anyOver widths ⌝ }
+{
+    (32 < widths[0]) | (32 < widths[1]) | (32 < widths[2]) | (32 < widths[3])
 }
 
 // The selector, and the choice that it names.
-fn select(s: &[u8], at: usize, d: [U32Specifier; 4]) -> ReadU32
+fn select(s: &[u8], at: usize, widths: [usize; 4], offsets: [u32; 4]) -> ReadU32
     requires { ⌜ Ready (now s) at 0 ⌝ }
-    requires { ⌜ F.anyWide d ≡ false ⌝ }
-    ensures { λ r. ⌜ toldU32 r ≡ F.select d (now (s .entry)) at ⌝ }
+    requires { ⌜ anyOver widths ≡ false ⌝ }
+    ensures { λ r. ⌜ toldU32 r ≡ selectOf widths offsets (now (s .entry)) at ⌝ }
 {
     let ReadU32::Value(k, next) = part(s, at, 2) else {
         return ReadU32::Refused(Refusal::UnexpectedEof, at);
     };
     let i = k as usize;
-    let one = d[i];
-    choice(s, next, one)
+    let ReadU32::Value(x, then) = part(s, next, widths[i]) else {
+        return ReadU32::Refused(Refusal::UnexpectedEof, next);
+    };
+    let offset = offsets[i];
+    ReadU32::Value(std::num::wrapping_add_u32(x, offset), then)
 }
 
 // `U32`: one of four choices.
 pub fn read_u32(s: &[u8], at: usize, d: [U32Specifier; 4]) -> ReadU32
     ensures { λ r. ⌜ toldU32 r ≡ F.u32 d (now (s .entry)) at ⌝ }
 {
-    let wide = any_over(d);
+    let a = d[0];
+    let b = d[1];
+    let c = d[2];
+    let e = d[3];
+    let widths = [width_of(a), width_of(b), width_of(c), width_of(e)];
+    let offsets = [offset_of(a), offset_of(b), offset_of(c), offset_of(e)];
+    let wide = any_over(widths);
     match begin(s, at, wide) {
         Moved::Refused(refusal, p) => ReadU32::Refused(refusal, p),
-        Moved::To(p) => select(s, p, d),
+        Moved::To(p) => select(s, p, widths, offsets),
     }
 }
 
@@ -350,22 +354,24 @@ fn chunks(s: &[u8], at: usize, first: u64) -> ReadU64
     last_chunk(s, p, value)
 }
 
-// What follows the selector of a `U64`.
+// What follows the selector of a `U64`. Under 3 it is one read, of no bits for 0: a width and an offset chosen cost less than a jump.
 fn by_selector(s: &[u8], at: usize, selector: u32) -> ReadU64
     requires { ⌜ Ready (now s) at 0 ⌝ }
     ensures { λ r. ⌜ toldU64 r ≡ F.u64By selector (now (s .entry)) at ⌝ }
 {
-    match selector {
-        0 => ReadU64::Value(0, at),
-        1 => plus(s, at, 4, 1),
-        2 => plus(s, at, 8, 17),
-        _ => {
-            let ReadU32::Value(first, next) = part(s, at, 12) else {
-                return ReadU64::Refused(Refusal::UnexpectedEof, at);
-            };
-            chunks(s, next, first as u64)
-        }
+    if 2 < selector {
+        let ReadU32::Value(first, next) = part(s, at, 12) else {
+            return ReadU64::Refused(Refusal::UnexpectedEof, at);
+        };
+        return chunks(s, next, first as u64);
     }
+    let width = if selector == 2 {
+        8
+    } else {
+        4 * (selector as usize)
+    };
+    let offset = if selector == 2 { 17 } else { selector as u64 };
+    plus(s, at, width, offset)
 }
 
 // `U64`: at most 73 bits.
@@ -381,32 +387,44 @@ pub fn read_u64(s: &[u8], at: usize) -> ReadU64
     by_selector(s, next, selector)
 }
 
-// Whether `v` is in the list.
+// Whether `v` is in the list. The whole list is looked at, so that the compiler can compare several numbers at once.
 fn listed(list: &[u32], v: u32) -> bool
     ensures { λ r. ⌜ r ≡ F.member v (now (list .entry)) ⌝ }
 {
+    let mut found = false;
     let mut i = 0;
     while i < list.len() {
-        if list[i] == v {
-            return true;
-        }
+        found = found | (list[i] == v);
         i += 1;
     }
-    false
+    found
+}
+
+// The value of an `Enum`: `select` of 0, 1, 2 + 4 bits, 18 + 6 bits, with no choices passed through memory.
+fn enum_value(s: &[u8], at: usize) -> ReadU32
+    requires { ⌜ Ready (now s) at 0 ⌝ }
+    ensures { λ r. ⌜ toldU32 r ≡ F.select F.four (now (s .entry)) at ⌝ }
+{
+    let ReadU32::Value(k, next) = part(s, at, 2) else {
+        return ReadU32::Refused(Refusal::UnexpectedEof, at);
+    };
+    let width = if k < 2 { 0 } else { 2 * (k as usize) };
+    let offset = if k < 3 { k } else { 18 };
+    let ReadU32::Value(x, then) = part(s, next, width) else {
+        return ReadU32::Refused(Refusal::UnexpectedEof, next);
+    };
+    ReadU32::Value(x + offset, then)
 }
 
 // `Enum`: a value that the caller's list must hold.
 pub fn read_enum(s: &[u8], at: usize, list: &[u32]) -> ReadU32
     ensures { λ r. ⌜ toldU32 r ≡ F.enumOf (now (list .entry)) (now (s .entry)) at ⌝ }
 {
-    let d = [
-        U32Specifier::Constant(0),
-        U32Specifier::Constant(1),
-        U32Specifier::BitsOffset(2, 4),
-        U32Specifier::BitsOffset(18, 6),
-    ];
-    match read_u32(s, at, d) {
-        ReadU32::Refused(refusal, p) => ReadU32::Refused(refusal, p),
+    let Moved::To(p) = begin(s, at, false) else {
+        return ReadU32::Refused(Refusal::TooLong, at);
+    };
+    match enum_value(s, p) {
+        ReadU32::Refused(refusal, stop) => ReadU32::Refused(refusal, stop),
         ReadU32::Value(v, next) => {
             if listed(list, v) {
                 ReadU32::Value(v, next)

@@ -34,11 +34,7 @@ listing r = record { events = events r; consumed = r .consumed; stop = r .stop }
 abbrev pub ListsEveryFile : (ContainerParser → List ℕ → Told) → Type 0
 ListsEveryFile step = (s : List ℕ) → listing {step = step} (Any.feeding (parserBy step) fresh 0 (s ∷ [])) ≡ file s
 
--- every file
-abbrev pub EveryFile : Type 0
-EveryFile = ListsEveryFile stepOf
-
--- versions to catch: a parser that only refuses, one that only says KIND invalid, one that only says WANT, and one that gives its first
+-- versions to catch, which no file's listing must come from: a parser that only refuses, one that only says KIND invalid, one that only says WANT, and one that gives its first
 -- event rightly and then says WANT
 abbrev pub onlyRefuses : ContainerParser → List ℕ → Told
 onlyRefuses p s = refuses (refusal 1 []) p 0
@@ -60,7 +56,11 @@ firstThenWants p s = elim (p .state) [
   | S.Refused k r ↦ wants p 0
 ]
 
--- none of them is right of every file
+-- every file
+abbrev pub EveryFile : Type 0
+EveryFile = ListsEveryFile stepOf
+
+-- none of those to catch is right of every file
 pub record Caught : Type 0 where
   pub refuses-caught : ListsEveryFile onlyRefuses → ⊥
   pub invalid-caught : ListsEveryFile onlyInvalid → ⊥

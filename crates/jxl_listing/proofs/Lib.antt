@@ -3,6 +3,7 @@ pub mod Numbers
 pub mod Putting
 pub mod Unique
 pub mod Sizes
+pub mod Ranges
 pub mod Values
 pub mod Fields
 pub mod Different

@@ -1,8 +1,8 @@
 -- Digits: the last one stands behind the others; a type has 8, and a number of 64 bits at most 20.
 use mathlib.Core.Path.{_≡_, refl, ap, _∙_}
 use mathlib.Core.Bool.{Bool, true, false}
-use mathlib.Core.List.{List, [], _∷_, _++_}
-use Prim.Native.Nat.{ℕ, zero, suc, _+_, _-_, _/_, _%_, _^_, _<_, _≤_}
+use mathlib.Core.List.{List, [], _∷_, _++_, append-assoc}
+use Prim.Native.Nat.{ℕ, zero, suc, _+_, _/_, _%_, _^_, _<_, _≤_}
 use native.Mathlib.Nat.{not-suc-le-zero, pow-suc}
 use native.Mathlib.Omega.{arith}
 use lib.Dec.{ltb}
@@ -37,6 +37,30 @@ decimal-more n h =
 pub decimal-longer : (n : ℕ) → 10 ≤ n → length (decimal n) ≡ length (decimal (n / 10)) + 1
 decimal-longer n h = ap length (decimal-more n h) ∙ length-append (decimal (n / 10)) (glyph (n % 10) ∷ [])
 
+-- a decimal digit is its own last hex digit
+pub glyph-small : (d : ℕ) → d < 10 → glyph (d % 16) ≡ glyph d
+glyph-small d h = let same : d % 16 ≡ d = omega arith in ap glyph same
+
+-- the last two digits
+abbrev pub lastTwo : ℕ → List ℕ
+lastTwo n = glyph (n / 10 % 10) ∷ glyph (n % 10) ∷ []
+
+pub decimal-two : (n : ℕ) → 10 ≤ n → n < 100 → decimal n ≡ lastTwo n
+decimal-two n h g =
+    let same : n / 10 ≡ n / 10 % 10 = omega arith in
+    decimal-more n h ∙ ap (λ (l : List ℕ). l ++ (glyph (n % 10) ∷ [])) (decimal-small (n / 10) (omega arith))
+    ∙ ap (λ (d : ℕ). glyph d ∷ glyph (n % 10) ∷ []) same
+
+pub decimal-by-two : (n : ℕ) → 100 ≤ n → decimal n ≡ decimal (n / 100) ++ lastTwo n
+decimal-by-two n h =
+    let same : n / 10 / 10 ≡ n / 100 = omega arith in
+    decimal-more n (omega arith) ∙ ap (λ (l : List ℕ). l ++ (glyph (n % 10) ∷ [])) (decimal-more (n / 10) (omega arith))
+    ∙ append-assoc (decimal (n / 10 / 10)) (glyph (n / 10 % 10) ∷ []) (glyph (n % 10) ∷ [])
+    ∙ ap (λ (k : ℕ). decimal k ++ lastTwo n) same
+
+pub decimal-two-longer : (n : ℕ) → 100 ≤ n → length (decimal n) ≡ length (decimal (n / 100)) + 2
+decimal-two-longer n h = ap length (decimal-by-two n h) ∙ length-append (decimal (n / 100)) (lastTwo n)
+
 length-in : (turns k n : ℕ) → n < 10 ^ suc k → length (decimalIn turns n) ≤ suc k
 length-in zero k n h = omega arith
 length-in (suc turns) k n h = go (ltb n 10) refl k h (λ j. length-in turns j (n / 10))
@@ -52,16 +76,23 @@ pub decimal-most : (n : ℕ) → n < 2 ^ 64 → length (decimal n) ≤ 20
 unfolding decimal
 decimal-most n h = length-in (suc n) 19 n (omega arith)
 
-pub hex-more : (k n : ℕ) → (k ≡ 0 → ⊥) → hexDigits k n ≡ hexDigits (k - 1) (n / 16) ++ (glyph (n % 16) ∷ [])
-hex-more zero n h = absurd (h refl)
-hex-more (suc k) n h =
-    let less : k ≡ suc k - 1 = omega arith in
-    ap (λ (j : ℕ). hexDigits j (n / 16) ++ (glyph (n % 16) ∷ [])) less
-
-pub hex-length : (k n : ℕ) → length (hexDigits k n) ≡ k
+hex-length : (k n : ℕ) → length (hexDigits k n) ≡ k
 hex-length zero n = refl
 hex-length (suc k) n = simp (length-append, hex-length k) (omega arith)
 
 pub type-length : (t : ℕ) → length (hex8 t) ≡ 8
 unfolding hex8
 type-length t = hex-length 8 t
+
+-- the eight characters of a type
+pub type-glyphs : (t : ℕ) → hex8 t ≡ glyph (t / 0x1000_0000 % 16) ∷ glyph (t / 0x100_0000 % 16) ∷ glyph (t / 0x10_0000 % 16) ∷ glyph (t / 0x1_0000 % 16)
+    ∷ glyph (t / 0x1000 % 16) ∷ glyph (t / 0x100 % 16) ∷ glyph (t / 0x10 % 16) ∷ glyph (t % 16) ∷ []
+unfolding hex8
+type-glyphs t =
+    let a : t / 16 / 16 ≡ t / 0x100 = omega arith in
+    let b : t / 16 / 16 / 16 ≡ t / 0x1000 = omega arith in
+    let c : t / 16 / 16 / 16 / 16 ≡ t / 0x1_0000 = omega arith in
+    let d : t / 16 / 16 / 16 / 16 / 16 ≡ t / 0x10_0000 = omega arith in
+    let e : t / 16 / 16 / 16 / 16 / 16 / 16 ≡ t / 0x100_0000 = omega arith in
+    let f : t / 16 / 16 / 16 / 16 / 16 / 16 / 16 ≡ t / 0x1000_0000 = omega arith in
+    cc

@@ -1,7 +1,7 @@
 -- Bytes put into a lent buffer.
 use mathlib.Core.Path.{_≡_}
 use mathlib.Core.List.{List, _++_}
-use Prim.Native.Nat.{ℕ, _+_}
+use Prim.Native.Nat.{ℕ, _+_, _≤_}
 use lib.Dec.{leb}
 use lib.ListN.{length, take, drop}
 use Rattle.jxl_container.specs.Bytes.{if}
@@ -22,17 +22,8 @@ putOf d at w =
     if (leb (at + length w) (length d)) (leaves (Written (at + length w)) (pasted d at w))
     (leaves (NoRoom (length w)) d)
 
--- w was put at `at` into d, which gave e; the next byte goes to r
+-- w was put at `at` into d, where it fits, which gave e; the next byte goes to r
 pub record Pasted (d : List ℕ) (at : ℕ) (w e : List ℕ) (r : ℕ) : Type 0 where
+  pub room : at + length w ≤ length d
   pub bytes : e ≡ pasted d at w
   pub next : r ≡ at + length w
-
--- e, up to r, is d, up to `at`, and then w
-pub record Behind (d : List ℕ) (at : ℕ) (w e : List ℕ) (r : ℕ) : Type 0 where
-  pub bytes : take r e ≡ take at d ++ w
-  pub next : r ≡ at + length w
-
--- e starts with w, which has n bytes
-pub record Starts (w e : List ℕ) (n : ℕ) : Type 0 where
-  pub bytes : take n e ≡ w
-  pub next : n ≡ length w

@@ -1,10 +1,11 @@
-// The fields of a line, each put behind the bytes that a buffer holds already; each answers where the next byte goes.
+// The fields of a line, each put into a buffer at a place; each answers where the next byte goes.
 ghost use mathlib.Core.Path.{_≡_};
 ghost use mathlib.Core.List.{[], _∷_};
-ghost use Prim.Native.Nat.{_+_, _≤_, _<_};
+ghost use Prim.Native.Nat.{_+_, _/_, _%_, _≤_, _<_};
 ghost use lib.ListN.{length};
+ghost use Rattle.jxl_container.specs.Bytes.{if};
 ghost use Rattle.jxl_listing.specs.Digits as Digits;
-ghost use Rattle.jxl_listing.specs.Putting.{Behind, Pasted};
+ghost use Rattle.jxl_listing.specs.Putting.{Pasted};
 
 // Copies `word` to `at`.
 pub(crate) fn copy_in(out: &mut [u8], at: usize, word: &[u8]) -> usize
@@ -21,72 +22,79 @@ pub(crate) fn copy_in(out: &mut [u8], at: usize, word: &[u8]) -> usize
     o
 }
 
-// One byte.
-pub(crate) fn put_byte(out: &mut [u8], at: usize, b: u8) -> usize
-    requires { ⌜ at < length (now out) ⌝ }
-    ensures { λ r. ⌜ Behind (now (out .entry)) at (b ∷ []) (now (out .exit)) r ⌝ }
+// One of two words.
+pub(crate) fn put_either(out: &mut [u8], at: usize, first: bool, yes: &[u8], no: &[u8]) -> usize
+    requires { ⌜ at + length (if first (now yes) (now no)) ≤ length (now out) ⌝ }
+    ensures { λ r. ⌜ Pasted (now (out .entry)) at (if first (now (yes .entry)) (now (no .entry))) (now (out .exit)) r ⌝ }
 {
-    out[at] = b;
-    at + 1
+    if first {
+        copy_in(out, at, yes)
+    } else {
+        copy_in(out, at, no)
+    }
 }
 
-// The character of a digit.
-fn digit(d: u8) -> u8
-    requires { ⌜ d < 16 ⌝ }
-    ensures { λ r. ⌜ r ≡ Digits.glyph d ⌝ }
+// The character of the last hex digit of `n`.
+fn glyph(n: usize) -> u8
+    ensures { λ r. ⌜ r ≡ Digits.glyph (n % 16) ⌝ }
 {
+    let d = (n % 16) as u8;
     if d < 10 { 48 + d } else { 87 + d }
 }
 
-// The last `k` hex digits of `n`: all but the last one first.
-fn put_hex(out: &mut [u8], at: usize, k: usize, n: u32) -> usize
-    requires { ⌜ at + k ≤ length (now out) ⌝ }
-    ensures { λ r. ⌜ Behind (now (out .entry)) at (Digits.hexDigits k n) (now (out .exit)) r ⌝ }
+// A type.
+pub(crate) fn put_type(out: &mut [u8], at: usize, ty: u32) -> usize
+    requires { ⌜ at + 8 ≤ length (now out) ⌝ }
+    ensures { λ r. ⌜ Pasted (now (out .entry)) at (Digits.hex8 ty) (now (out .exit)) r ⌝ }
 {
-    if k == 0 {
-        return at;
-    }
-    let next = put_hex(out, at, k - 1, n / 16);
-    put_byte(out, next, digit((n % 16) as u8))
+    let n = ty as usize;
+    out[at] = glyph(n / 0x1000_0000);
+    out[at + 1] = glyph(n / 0x100_0000);
+    out[at + 2] = glyph(n / 0x10_0000);
+    out[at + 3] = glyph(n / 0x1_0000);
+    out[at + 4] = glyph(n / 0x1000);
+    out[at + 5] = glyph(n / 0x100);
+    out[at + 6] = glyph(n / 0x10);
+    out[at + 7] = glyph(n);
+    at + 8
 }
 
-// The decimal digits of `n`: all but the last one first.
-fn put_decimal(out: &mut [u8], at: usize, n: usize) -> usize
+// The last two decimal digits of `n`.
+fn put_two(out: &mut [u8], at: usize, n: usize) -> usize
+    requires { ⌜ at + 2 ≤ length (now out) ⌝ }
+    ensures { λ r. ⌜ Pasted (now (out .entry)) at (Digits.glyph (n / 10 % 10) ∷ Digits.glyph (n % 10) ∷ []) (now (out .exit)) r ⌝ }
+{
+    out[at] = glyph(n / 10 % 10);
+    out[at + 1] = glyph(n % 10);
+    at + 2
+}
+
+// The decimal digits of `n`: all but the last two first.
+pub(crate) fn put_decimal(out: &mut [u8], at: usize, n: usize) -> usize
     requires { ⌜ at + length (Digits.decimal n) ≤ length (now out) ⌝ }
-    ensures { λ r. ⌜ Behind (now (out .entry)) at (Digits.decimal n) (now (out .exit)) r ⌝ }
+    ensures { λ r. ⌜ Pasted (now (out .entry)) at (Digits.decimal n) (now (out .exit)) r ⌝ }
 {
     if n < 10 {
-        return put_byte(out, at, digit(n as u8));
+        out[at] = glyph(n);
+        return at + 1;
     }
-    let next = put_decimal(out, at, n / 10);
-    put_byte(out, next, digit((n % 10) as u8))
+    if n < 100 {
+        return put_two(out, at, n);
+    }
+    let next = put_decimal(out, at, n / 100);
+    put_two(out, next, n)
 }
 
-// A tab and a word.
-pub(crate) fn put_word(out: &mut [u8], at: usize, word: &[u8]) -> usize
-    requires { ⌜ at + 1 + length (now word) ≤ length (now out) ⌝ }
-    ensures { λ r. ⌜ Behind (now (out .entry)) at (9 ∷ now (word .entry)) (now (out .exit)) r ⌝ }
+// How many decimal digits `n` has.
+pub(crate) fn digits(n: usize) -> usize
+    ensures { λ r. ⌜ r ≡ length (Digits.decimal n) ⌝ }
+    ensures { λ r. ⌜ r ≤ 20 ⌝ }
 {
-    let next = put_byte(out, at, b'\t');
-    copy_in(out, next, word)
-}
-
-// A tab and a type.
-pub(crate) fn put_type(out: &mut [u8], at: usize, ty: u32) -> usize
-    requires { ⌜ at + 9 ≤ length (now out) ⌝ }
-    ensures { λ r. ⌜ Behind (now (out .entry)) at (9 ∷ Digits.hex8 ty) (now (out .exit)) r ⌝ }
-    ensures { λ r. ⌜ r ≡ at + 9 ⌝ }
-{
-    let next = put_byte(out, at, b'\t');
-    put_hex(out, next, 8, ty)
-}
-
-// A tab and a number, which has at most 20 digits.
-pub(crate) fn put_number(out: &mut [u8], at: usize, n: usize) -> usize
-    requires { ⌜ at + 21 ≤ length (now out) ⌝ }
-    ensures { λ r. ⌜ Behind (now (out .entry)) at (9 ∷ Digits.decimal n) (now (out .exit)) r ⌝ }
-    ensures { λ r. ⌜ r ≤ at + 21 ⌝ }
-{
-    let next = put_byte(out, at, b'\t');
-    put_decimal(out, next, n)
+    let mut count = 1;
+    let mut rest = n;
+    while 10 <= rest {
+        rest /= 10;
+        count += 1;
+    }
+    count
 }

@@ -3,14 +3,16 @@ use jxl_container::BitstreamKind;
 use jxl_container::Refusal;
 use jxl_container::parse::Event;
 ghost use mathlib.Core.Path.{_≡_};
-ghost use Prim.Native.Nat.{_≤_};
+ghost use mathlib.Core.List.{[], _∷_, _++_};
+ghost use Prim.Native.Nat.{_+_, _≤_};
 ghost use lib.ListN.{length};
 ghost use Rattle.jxl_container.specs.Record.{why};
-ghost use Rattle.jxl_listing.specs.Lines.{printed, text};
-ghost use Rattle.jxl_listing.specs.Putting.{leaves, putOf, Starts};
+ghost use Rattle.jxl_listing.specs.Digits.{decimal};
+ghost use Rattle.jxl_listing.specs.Lines.{printed, rest, stopWord, text};
+ghost use Rattle.jxl_listing.specs.Lines as Lines;
+ghost use Rattle.jxl_listing.specs.Putting.{leaves, putOf, Pasted};
 
 mod field;
-mod words;
 
 // Why a listing ends, as it is printed: more is wanted, or a refusal by its number in the paper.
 pub enum Stop {
@@ -44,102 +46,107 @@ pub enum Put {
 }
 
 // What the file is.
-fn kind_line(out: &mut [u8], kind: BitstreamKind) -> usize
-    requires { ⌜ 56 ≤ length (now out) ⌝ }
-    ensures { λ r. ⌜ Starts (text (Line.Shown (Event.Kind kind))) (now (out .exit)) r ⌝ }
+fn kind_line(out: &mut [u8], at: usize, kind: BitstreamKind) -> usize
+    requires { ⌜ at + length (text (Line.Shown (Event.Kind kind))) ≤ length (now out) ⌝ }
+    ensures { λ r. ⌜ Pasted (now (out .entry)) at (text (Line.Shown (Event.Kind kind))) (now (out .exit)) r ⌝ }
 {
-    let a = field::copy_in(out, 0, b"kind");
-    let b = words::put_kind(out, a, kind);
-    field::put_byte(out, b, b'\n')
-}
-
-// A side box starts.
-fn start_line(out: &mut [u8], ty: u32, brotli: bool, to_end: bool) -> usize
-    requires { ⌜ 56 ≤ length (now out) ⌝ }
-    ensures { λ r. ⌜ Starts (text (Line.Shown (Event.AuxStart ty brotli «to_end»))) (now (out .exit)) r ⌝ }
-{
-    let a = field::copy_in(out, 0, b"start");
-    let b = field::put_type(out, a, ty);
-    let c = words::put_brob(out, b, brotli);
-    let d = words::put_end(out, c, to_end);
-    field::put_byte(out, d, b'\n')
-}
-
-// A part of a side box, at its place in the file.
-fn data_line(out: &mut [u8], ty: u32, at: usize, len: usize) -> usize
-    requires { ⌜ 56 ≤ length (now out) ⌝ }
-    ensures { λ r. ⌜ Starts (text (Line.Shown (Event.AuxData ty at len))) (now (out .exit)) r ⌝ }
-{
-    let a = field::copy_in(out, 0, b"data");
-    let b = field::put_type(out, a, ty);
-    let c = field::put_number(out, b, at);
-    let d = field::put_number(out, c, len);
-    field::put_byte(out, d, b'\n')
-}
-
-// A side box ends.
-fn end_line(out: &mut [u8], ty: u32) -> usize
-    requires { ⌜ 56 ≤ length (now out) ⌝ }
-    ensures { λ r. ⌜ Starts (text (Line.Shown (Event.AuxEnd ty))) (now (out .exit)) r ⌝ }
-{
-    let a = field::copy_in(out, 0, b"end");
-    let b = field::put_type(out, a, ty);
-    field::put_byte(out, b, b'\n')
-}
-
-// All that follows is codestream.
-fn no_more_line(out: &mut [u8]) -> usize
-    requires { ⌜ 56 ≤ length (now out) ⌝ }
-    ensures { λ r. ⌜ Starts (text (Line.Shown Event.NoMoreAux)) (now (out .exit)) r ⌝ }
-{
-    field::copy_in(out, 0, b"nomore\n")
-}
-
-// A part of the codestream, at its place in the file.
-fn code_line(out: &mut [u8], at: usize, len: usize) -> usize
-    requires { ⌜ 56 ≤ length (now out) ⌝ }
-    ensures { λ r. ⌜ Starts (text (Line.Shown (Event.Codestream at len))) (now (out .exit)) r ⌝ }
-{
-    let a = field::copy_in(out, 0, b"code");
-    let b = field::put_number(out, a, at);
-    let c = field::put_number(out, b, len);
-    field::put_byte(out, c, b'\n')
-}
-
-// Where the listing ends, and why.
-fn stop_line(out: &mut [u8], stop: Stop, consumed: usize) -> usize
-    requires { ⌜ 56 ≤ length (now out) ⌝ }
-    ensures { λ r. ⌜ Starts (text (Line.Stopped stop consumed)) (now (out .exit)) r ⌝ }
-{
-    let a = field::copy_in(out, 0, b"stop");
-    let b = words::put_stop(out, a, stop);
-    let c = field::put_number(out, b, consumed);
-    field::put_byte(out, c, b'\n')
-}
-
-// An event.
-fn event_line(out: &mut [u8], event: Event) -> usize
-    requires { ⌜ 56 ≤ length (now out) ⌝ }
-    ensures { λ r. ⌜ Starts (text (Line.Shown event)) (now (out .exit)) r ⌝ }
-{
-    match event {
-        Event::Kind(kind) => kind_line(out, kind),
-        Event::NoMoreAux => no_more_line(out),
-        Event::Codestream { at, len } => code_line(out, at, len),
-        Event::AuxStart { ty, brotli, to_end } => start_line(out, ty, brotli, to_end),
-        Event::AuxData { ty, at, len } => data_line(out, ty, at, len),
-        Event::AuxEnd { ty } => end_line(out, ty),
+    match kind {
+        BitstreamKind::Unknown => field::copy_in(out, at, b"kind\tunknown\n"),
+        BitstreamKind::BareCodestream => field::copy_in(out, at, b"kind\tbare\n"),
+        BitstreamKind::Container => field::copy_in(out, at, b"kind\tcontainer\n"),
+        BitstreamKind::Invalid => field::copy_in(out, at, b"kind\tinvalid\n"),
     }
 }
 
-// A line, from the start of the buffer.
-fn write_line(out: &mut [u8], line: Line) -> usize
-    requires { ⌜ 56 ≤ length (now out) ⌝ }
-    ensures { λ r. ⌜ Starts (text (line)) (now (out .exit)) r ⌝ }
+// A side box starts.
+fn start_line(out: &mut [u8], at: usize, ty: u32, brotli: bool, to_end: bool) -> usize
+    requires { ⌜ at + length (text (Line.Shown (Event.AuxStart ty brotli «to_end»))) ≤ length (now out) ⌝ }
+    ensures { λ r. ⌜ Pasted (now (out .entry)) at (text (Line.Shown (Event.AuxStart ty brotli «to_end»))) (now (out .exit)) r ⌝ }
+{
+    let a = field::copy_in(out, at, b"start\t");
+    let b = field::put_type(out, a, ty);
+    let c = field::put_either(out, b, brotli, b"\tbrob", b"\tplain");
+    field::put_either(out, c, to_end, b"\ttoend\n", b"\tbounded\n")
+}
+
+// Where a part of a payload lies in the file, and how long it is: the end of a line.
+fn put_span(out: &mut [u8], at: usize, place: usize, len: usize) -> usize
+    requires { ⌜ at + length (rest (decimal place ∷ decimal len ∷ [])) ≤ length (now out) ⌝ }
+    ensures { λ r. ⌜ Pasted (now (out .entry)) at (rest (decimal place ∷ decimal len ∷ [])) (now (out .exit)) r ⌝ }
+{
+    let a = field::copy_in(out, at, b"\t");
+    let b = field::put_decimal(out, a, place);
+    let c = field::copy_in(out, b, b"\t");
+    let d = field::put_decimal(out, c, len);
+    field::copy_in(out, d, b"\n")
+}
+
+// A part of a side box, at its place in the file.
+fn data_line(out: &mut [u8], at: usize, ty: u32, place: usize, len: usize) -> usize
+    requires { ⌜ at + length (text (Line.Shown (Event.AuxData ty place len))) ≤ length (now out) ⌝ }
+    ensures { λ r. ⌜ Pasted (now (out .entry)) at (text (Line.Shown (Event.AuxData ty place len))) (now (out .exit)) r ⌝ }
+{
+    let a = field::copy_in(out, at, b"data\t");
+    let b = field::put_type(out, a, ty);
+    put_span(out, b, place, len)
+}
+
+// A side box ends.
+fn end_line(out: &mut [u8], at: usize, ty: u32) -> usize
+    requires { ⌜ at + length (text (Line.Shown (Event.AuxEnd ty))) ≤ length (now out) ⌝ }
+    ensures { λ r. ⌜ Pasted (now (out .entry)) at (text (Line.Shown (Event.AuxEnd ty))) (now (out .exit)) r ⌝ }
+{
+    let a = field::copy_in(out, at, b"end\t");
+    let b = field::put_type(out, a, ty);
+    field::copy_in(out, b, b"\n")
+}
+
+// A part of the codestream, at its place in the file.
+fn code_line(out: &mut [u8], at: usize, place: usize, len: usize) -> usize
+    requires { ⌜ at + length (text (Line.Shown (Event.Codestream place len))) ≤ length (now out) ⌝ }
+    ensures { λ r. ⌜ Pasted (now (out .entry)) at (text (Line.Shown (Event.Codestream place len))) (now (out .exit)) r ⌝ }
+{
+    let a = field::copy_in(out, at, b"code");
+    put_span(out, a, place, len)
+}
+
+// Why the listing ends: the start of a line.
+fn put_stop(out: &mut [u8], at: usize, stop: Stop) -> usize
+    requires { ⌜ at + length (Lines.stop ++ (9 ∷ (stopWord stop ++ (9 ∷ [])))) ≤ length (now out) ⌝ }
+    ensures { λ r. ⌜ Pasted (now (out .entry)) at (Lines.stop ++ (9 ∷ (stopWord stop ++ (9 ∷ [])))) (now (out .exit)) r ⌝ }
+{
+    match stop {
+        Stop::Want => field::copy_in(out, at, b"stop\twant\t"),
+        Stop::Refused1 => field::copy_in(out, at, b"stop\trefused1\t"),
+        Stop::Refused2 => field::copy_in(out, at, b"stop\trefused2\t"),
+    }
+}
+
+// Where the listing ends, and why.
+fn stop_line(out: &mut [u8], at: usize, stop: Stop, consumed: usize) -> usize
+    requires { ⌜ at + length (text (Line.Stopped stop consumed)) ≤ length (now out) ⌝ }
+    ensures { λ r. ⌜ Pasted (now (out .entry)) at (text (Line.Stopped stop consumed)) (now (out .exit)) r ⌝ }
+{
+    let a = put_stop(out, at, stop);
+    let b = field::put_decimal(out, a, consumed);
+    field::copy_in(out, b, b"\n")
+}
+
+// A line, for which there is room.
+fn write_line(out: &mut [u8], at: usize, line: Line) -> usize
+    requires { ⌜ at + length (text line) ≤ length (now out) ⌝ }
+    ensures { λ r. ⌜ Pasted (now (out .entry)) at (text line) (now (out .exit)) r ⌝ }
 {
     match line {
-        Line::Shown(event) => event_line(out, event),
-        Line::Stopped { stop, consumed } => stop_line(out, stop, consumed),
+        Line::Shown(event) => match event {
+            Event::Kind(kind) => kind_line(out, at, kind),
+            Event::NoMoreAux => field::copy_in(out, at, b"nomore\n"),
+            Event::Codestream { at: place, len } => code_line(out, at, place, len),
+            Event::AuxStart { ty, brotli, to_end } => start_line(out, at, ty, brotli, to_end),
+            Event::AuxData { ty, at: place, len } => data_line(out, at, ty, place, len),
+            Event::AuxEnd { ty } => end_line(out, at, ty),
+        },
+        Line::Stopped { stop, consumed } => stop_line(out, at, stop, consumed),
     }
 }
 
@@ -147,21 +154,49 @@ fn write_line(out: &mut [u8], line: Line) -> usize
 pub fn line_length(line: Line) -> usize
     ensures { λ r. ⌜ r ≡ length (text line) ⌝ }
 {
-    let mut bytes = [0u8; 64];
-    write_line(&mut bytes, line)
+    match line {
+        Line::Shown(event) => match event {
+            Event::Kind(kind) => match kind {
+                BitstreamKind::Unknown => 13,
+                BitstreamKind::BareCodestream => 10,
+                BitstreamKind::Container => 15,
+                BitstreamKind::Invalid => 13,
+            },
+            Event::NoMoreAux => 7,
+            Event::Codestream { at, len } => 7 + field::digits(at) + field::digits(len),
+            Event::AuxStart {
+                ty: _,
+                brotli,
+                to_end,
+            } => {
+                if brotli {
+                    if to_end { 26 } else { 28 }
+                } else {
+                    if to_end { 27 } else { 29 }
+                }
+            }
+            Event::AuxData { ty: _, at, len } => 16 + field::digits(at) + field::digits(len),
+            Event::AuxEnd { ty: _ } => 13,
+        },
+        Line::Stopped { stop, consumed } => match stop {
+            Stop::Want => 11 + field::digits(consumed),
+            Stop::Refused1 => 15 + field::digits(consumed),
+            Stop::Refused2 => 15 + field::digits(consumed),
+        },
+    }
 }
 
 // Puts the line at `at` if all of it fits there; otherwise the buffer stays as it was.
 pub fn put_line(out: &mut [u8], at: usize, line: Line) -> Put
     ensures { λ r. ⌜ leaves r (now (out .exit)) ≡ putOf (now (out .entry)) at (text line) ⌝ }
 {
-    let mut bytes = [0u8; 64];
-    let n = write_line(&mut bytes, line);
-    if out.len() < n {
-        return Put::NoRoom(n);
+    let room = if at < out.len() { out.len() - at } else { 0 };
+    // the longest line has 56 bytes
+    if room < 56 {
+        let n = line_length(line);
+        if room < n {
+            return Put::NoRoom(n);
+        }
     }
-    if out.len() - n < at {
-        return Put::NoRoom(n);
-    }
-    Put::Written(field::copy_in(out, at, &bytes[..n]))
+    Put::Written(write_line(out, at, line))
 }

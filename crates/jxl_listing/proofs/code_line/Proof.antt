@@ -1,5 +1,4 @@
-use native.Mathlib.Omega.{arith}
-use Rattle.jxl_listing.proofs.Bytes.{behind-then, behind-pasted, at-front}
+use Rattle.jxl_listing.proofs.Bytes.{pasted-then}
 use borrow.Author.Needs.{needs}
 use Rattle.jxl_listing.proofs.code_line.Statement.{statement}
 use Rattle.jxl_listing.proofs.code_line.Tie as tie
@@ -10,34 +9,16 @@ slice-aggregate-copy-in c = search needs
 copy-in-requires : tie.Need-copy-in-requires
 copy-in-requires c κs = search needs
 
-put-number-requires : tie.Need-put-number-requires
-put-number-requires c κs = search needs
-
-put-number-requires-2 : tie.Need-put-number-requires-2
-put-number-requires-2 c κs = search needs
-
-put-byte-requires : tie.Need-put-byte-requires
-put-byte-requires c κs = search needs
+put-span-requires : tie.Need-put-span-requires
+put-span-requires c κs = search needs
 
 same-length : tie.Need-same-length
 same-length c = search needs
 
 returns : tie.Need-returns
-returns c =
-    at-front
-    (behind-then (behind-pasted (omega arith) (c .before .before .before .before .before .before .before .before .before .before .before .before .before .before .copy-in .ensures))
-    (behind-then (c .before .before .before .before .before .before .before .before .before .before .put-number .ensures .0)
-    (behind-then (c .before .before .before .before .before .before .put-number2 .ensures .0)
-    (c .before .before .put-byte .ensures))))
+returns c = pasted-then (c .before .before .before .before .before .before .copy-in .ensures) (c .before .before .put-span .ensures)
 
 pub code-line-spec : {M : Type 1} → statement M
 code-line-spec =
     tie.close
-    (tie.spec
-    slice-aggregate-copy-in
-    copy-in-requires
-    put-number-requires
-    put-number-requires-2
-    put-byte-requires
-    same-length
-    returns)
+    (tie.spec slice-aggregate-copy-in copy-in-requires put-span-requires same-length returns)

@@ -1,5 +1,7 @@
 use native.Mathlib.Omega.{arith}
-use Rattle.jxl_listing.proofs.Bytes.{behind-then, behind-pasted, at-front}
+use Rattle.jxl_listing.proofs.Bytes.{pasted-then}
+use Rattle.jxl_listing.proofs.Numbers.{type-length}
+use Rattle.jxl_listing.proofs.Sizes.{data-size, span-size}
 use borrow.Author.Needs.{needs}
 use Rattle.jxl_listing.proofs.data_line.Statement.{statement}
 use Rattle.jxl_listing.proofs.data_line.Tie as tie
@@ -11,28 +13,20 @@ copy-in-requires : tie.Need-copy-in-requires
 copy-in-requires c κs = search needs
 
 put-type-requires : tie.Need-put-type-requires
-put-type-requires c κs = search needs
+put-type-requires c κs = omega (arith, data-size (c .before .before .before .before .before .before .before .args .ty) (c .before .before .before .before .before .before .before .args .place) (c .before .before .before .before .before .before .before .args .len))
 
-put-number-requires : tie.Need-put-number-requires
-put-number-requires c κs = search needs
-
-put-number-requires-2 : tie.Need-put-number-requires-2
-put-number-requires-2 c κs = search needs
-
-put-byte-requires : tie.Need-put-byte-requires
-put-byte-requires c κs = search needs
+put-span-requires : tie.Need-put-span-requires
+put-span-requires c κs =
+    let a = c .before .before .before .before .before .before .before .before .before .before .before .args in
+    omega (arith, data-size (a .ty) (a .place) (a .len), span-size (a .place) (a .len), type-length (a .ty))
 
 same-length : tie.Need-same-length
 same-length c = search needs
 
 returns : tie.Need-returns
 returns c =
-    at-front
-    (behind-then (behind-pasted (omega arith) (c .before .before .before .before .before .before .before .before .before .before .before .before .before .before .before .before .before .before .copy-in .ensures))
-    (behind-then (c .before .before .before .before .before .before .before .before .before .before .before .before .before .before .put-type .ensures .0)
-    (behind-then (c .before .before .before .before .before .before .before .before .before .before .put-number .ensures .0)
-    (behind-then (c .before .before .before .before .before .before .put-number2 .ensures .0)
-    (c .before .before .put-byte .ensures)))))
+    pasted-then (c .before .before .before .before .before .before .before .before .before .before .copy-in .ensures)
+    (pasted-then (c .before .before .before .before .before .before .put-type .ensures) (c .before .before .put-span .ensures))
 
 pub data-line-spec : {M : Type 1} → statement M
 data-line-spec =
@@ -41,8 +35,6 @@ data-line-spec =
     slice-aggregate-copy-in
     copy-in-requires
     put-type-requires
-    put-number-requires
-    put-number-requires-2
-    put-byte-requires
+    put-span-requires
     same-length
     returns)

@@ -1,5 +1,7 @@
 use native.Mathlib.Omega.{arith}
-use Rattle.jxl_listing.proofs.Bytes.{behind-then, behind-pasted, at-front}
+use Rattle.jxl_listing.proofs.Bytes.{pasted-then}
+use Rattle.jxl_listing.proofs.Numbers.{type-length}
+use Rattle.jxl_listing.proofs.Sizes.{end-size}
 use borrow.Author.Needs.{needs}
 use Rattle.jxl_listing.proofs.end_line.Statement.{statement}
 use Rattle.jxl_listing.proofs.end_line.Tie as tie
@@ -11,20 +13,21 @@ copy-in-requires : tie.Need-copy-in-requires
 copy-in-requires c κs = search needs
 
 put-type-requires : tie.Need-put-type-requires
-put-type-requires c κs = search needs
+put-type-requires c κs = omega (arith, end-size (c .before .before .before .before .before .before .before .args .ty))
 
-put-byte-requires : tie.Need-put-byte-requires
-put-byte-requires c κs = search needs
+slice-aggregate-copy-in-2 : tie.Need-slice-aggregate-copy-in-2
+slice-aggregate-copy-in-2 c = search needs
+
+copy-in-requires-2 : tie.Need-copy-in-requires-2
+copy-in-requires-2 c κs = omega (arith, end-size (c .before .before .before .before .before .before .before .before .before .before .before .before .args .ty), type-length (c .before .before .before .before .before .before .before .before .before .before .before .before .args .ty))
 
 same-length : tie.Need-same-length
 same-length c = search needs
 
 returns : tie.Need-returns
 returns c =
-    at-front
-    (behind-then (behind-pasted (omega arith) (c .before .before .before .before .before .before .before .before .before .before .copy-in .ensures))
-    (behind-then (c .before .before .before .before .before .before .put-type .ensures .0)
-    (c .before .before .put-byte .ensures)))
+    pasted-then (c .before .before .before .before .before .before .before .before .before .before .before .copy-in .ensures)
+    (pasted-then (c .before .before .before .before .before .before .before .put-type .ensures) (c .before .before .copy-in2 .ensures))
 
 pub end-line-spec : {M : Type 1} → statement M
 end-line-spec =
@@ -33,6 +36,7 @@ end-line-spec =
     slice-aggregate-copy-in
     copy-in-requires
     put-type-requires
-    put-byte-requires
+    slice-aggregate-copy-in-2
+    copy-in-requires-2
     same-length
     returns)

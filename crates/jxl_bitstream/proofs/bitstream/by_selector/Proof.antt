@@ -1,19 +1,15 @@
--- `by_selector` meets its contract: the arm says the selector, and each part is answered as the rule has it.
+-- `by_selector` meets its contract: above 2 the chunks, else one part whose width and offset are the selector's.
 -- Assumes nothing.
+use mathlib.Core.Logic.{⊎-elim}
 use mathlib.Core.Path.{_∙_, ap, sym}
-use Prim.Native.Nat.{zero-le}
+use Prim.Native.Nat.{_^_, _≤_, _<_, zero-le}
+use native.Mathlib.Omega.{arith}
 use borrow.Author.Needs.{needs}
-use borrow.Author.Tests.{ne-eqb}
 use Rattle.jxl_bitstream.specs.Told.{toldU32}
+use Rattle.jxl_bitstream.proofs.Chunks.{by-chunks, by-plus, width-two, width-less, offset-two, offset-less}
 use Rattle.jxl_bitstream.proofs.Parts.{given, short}
 use Rattle.jxl_bitstream.proofs.bitstream.by_selector.Statement.{statement}
 use Rattle.jxl_bitstream.proofs.bitstream.by_selector.Tie as tie
-
-plus-requires : tie.Need-plus-requires
-plus-requires c κs = search needs
-
-plus-requires-2 : tie.Need-plus-requires-2
-plus-requires-2 c κs = search needs
 
 part-requires : tie.Need-part-requires
 part-requires c κs = search needs
@@ -27,8 +23,7 @@ enum-told c = search needs
 returns : tie.Need-returns
 returns c =
     let a = c .before .before .before .before .before .args in
-    let r = c .before .before .before .match .rest in
-    rw (ne-eqb _ 0 (r .0 .0 .1), ne-eqb _ 1 (r .0 .1), ne-eqb _ 2 (r .1), short 12 (a .s .now) (a .at) _ _ _ (ap toldU32 (sym (c .enum-told .given .1)) ∙ c .before .before .part .ensures))
+    rw (by-chunks (a .selector) (c .before .before .before .if1 .taken) (a .s .now) (a .at), short 12 (a .s .now) (a .at) _ _ _ (ap toldU32 (sym (c .enum-told .given .1)) ∙ c .before .before .part .ensures))
 
 cast-chunks : tie.Need-cast-chunks
 cast-chunks c = search needs
@@ -40,25 +35,33 @@ chunks-requires c κs =
     (record { short = c .before .before .before .before .before .before .pre .short; within = g .within; narrow = zero-le }, g .below)
 
 returns-2 : tie.Need-returns-2
-returns-2 c = rw (c .match .keys1)
+returns-2 c =
+    let a = c .before .before .before .before .before .before .before .args in
+    rw (by-chunks (a .selector) (c .before .before .before .before .before .if1 .taken) (a .s .now) (a .at), ← (ap toldU32 (sym (c .before .before .first .given .1)) ∙ c .before .before .before .before .part .ensures)) (c .chunks .ensures)
+
+mul-width : tie.Need-mul-width
+mul-width c = search needs
+
+plus-requires : tie.Need-plus-requires
+plus-requires c κs =
+    let pre = c .before .before .before .before .pre in
+    let low = c .before .before .if1 .left in
+    let narrow : c .before .if2 .width ≤ 32 = ⊎-elim (λ w. omega arith) (λ w. omega arith) (c .before .if2 .came) in
+    let small : c .if3 .offset < 2 ^ 32 = ⊎-elim (λ w. omega arith) (λ w. omega arith) (c .if3 .came) in
+    (record { short = pre .short; within = pre .within; narrow = narrow }, small)
 
 returns-3 : tie.Need-returns-3
-returns-3 c = rw (c .before .match .keys2) (c .plus .ensures)
-
-returns-4 : tie.Need-returns-4
-returns-4 c = rw (c .before .match .keys3) (c .plus2 .ensures)
-
-returns-5 : tie.Need-returns-5
-returns-5 c =
-    let r = c .before .before .before .before .before .match .rest in
-    rw (ne-eqb _ 0 (r .0 .0 .1), ne-eqb _ 1 (r .0 .1), ne-eqb _ 2 (r .1), ← (ap toldU32 (sym (c .before .before .first .given .1)) ∙ c .before .before .before .before .part .ensures)) (c .chunks .ensures)
+returns-3 c =
+    let a = c .before .before .before .before .before .args in
+    let low = c .before .before .before .if1 .left in
+    let width = ⊎-elim (λ w. w .1 ∙ width-two (a .selector) low (w .0 .taken)) (λ w. w .1 ∙ width-less (a .selector) low (w .0 .left)) (c .before .before .if2 .came) in
+    let offset = ⊎-elim (λ w. w .1 ∙ offset-two (a .selector) low (w .0 .taken)) (λ w. w .1 ∙ offset-less (a .selector) low (w .0 .left)) (c .before .if3 .came) in
+    rw (← by-plus (a .selector) low (a .s .now) (a .at) (c .before .before .before .before .before .pre .within), ← width, ← offset) (c .plus .ensures)
 
 pub by-selector-spec : {M : Type 1} → statement M
 by-selector-spec =
     tie.close
     (tie.spec
-    plus-requires
-    plus-requires-2
     part-requires
     enum-known-first
     enum-told
@@ -66,6 +69,6 @@ by-selector-spec =
     cast-chunks
     chunks-requires
     returns-2
-    returns-3
-    returns-4
-    returns-5)
+    mul-width
+    plus-requires
+    returns-3)

@@ -1,4 +1,4 @@
--- `look` meets its contract: the bits lie in the five bytes, and the mask leaves n of them.
+-- `look` meets its contract: the bits lie in the eight bytes, and the mask leaves n of them.
 -- Assumes nothing.
 use mathlib.Core.Path.{_∙_, ap}
 use Prim.Native.Nat.{ℕ, _/_, _%_, _^_}
@@ -6,7 +6,7 @@ use native.Mathlib.Nat.{lt-of-lt-of-le, mod-lt}
 use borrow.Author.Needs.{needs}
 use lib.Bits.{and-mask}
 use lib.Pow.{pow-pos, pow-mono}
-use Rattle.jxl_bitstream.proofs.Numbers.{from-five, masked, one-at}
+use Rattle.jxl_bitstream.proofs.Numbers.{from-eight, masked, one-at}
 use Rattle.jxl_bitstream.proofs.bitstream.look.Statement.{statement}
 use Rattle.jxl_bitstream.proofs.bitstream.look.Tie as tie
 
@@ -34,7 +34,7 @@ returns c =
     let small = c .before .before .pre .narrow in
     masked (c .window .result / 2 ^ (a .at % 8)) (a .n) small
     ∙ ap (λ (w : ℕ). w / 2 ^ (a .at % 8) % 2 ^ a .n) (c .window .ensures)
-    ∙ from-five (a .s .now) (λ i. c .before .shared-slice-known .given i .fits) (a .at) (a .n) small
+    ∙ from-eight (a .s .now) (λ i. c .before .shared-slice-known .given i .fits) (a .at) (a .n) small
 
 pub look-spec : {M : Type 1} → statement M
 look-spec = tie.close (tie.spec window-requires shr-w shl-result sub-result cast-result returns)

@@ -53,7 +53,7 @@ unfolding f16 half
 returns-3 c =
     let a = c .before .before .before .before .before .before .before .before .before .before .args in
     given-exactly (a .s .now) (a .at) _
-    (rw (← (ap toldMoved (sym (c .before .before .before .before .before .before .p .given .1)) ∙ c .before .before .before .before .before .before .before .before .begin .ensures), ← (ap toldU32 (sym (c .before .before .v .given .1)) ∙ c .before .before .before .before .part .ensures), eq-eqb _ _ (c .if1 .taken)))
+    (rw (← (ap toldMoved (sym (c .before .before .before .before .before .before .p .given .1)) ∙ c .before .before .before .before .before .before .before .before .begin .ensures), ← (ap toldU32 (sym (c .before .before .v .given .1)) ∙ c .before .before .before .before .part .ensures), eq-eqb _ 31 (c .if1 .taken)))
 
 widened-requires : tie.Need-widened-requires
 widened-requires c κs =
@@ -67,7 +67,7 @@ unfolding f16 half
 returns-4 c =
     let a = c .before .before .before .before .before .before .before .before .before .before .before .args in
     given-exactly (a .s .now) (a .at) _
-    (rw (← (ap toldMoved (sym (c .before .before .before .before .before .before .before .p .given .1)) ∙ c .before .before .before .before .before .before .before .before .before .begin .ensures), ← (ap toldU32 (sym (c .before .before .before .v .given .1)) ∙ c .before .before .before .before .before .part .ensures), ne-eqb _ _ (c .before .if1 .left), c .widened .ensures))
+    (rw (← (ap toldMoved (sym (c .before .before .before .before .before .before .before .p .given .1)) ∙ c .before .before .before .before .before .before .before .before .before .begin .ensures), ← (ap toldU32 (sym (c .before .before .before .v .given .1)) ∙ c .before .before .before .before .before .part .ensures), ne-eqb _ 31 (c .before .if1 .left), c .widened .ensures))
 
 pub read-f16-as-f32-spec : {M : Type 1} → statement M
 read-f16-as-f32-spec =

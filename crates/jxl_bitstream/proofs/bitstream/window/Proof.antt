@@ -1,8 +1,8 @@
--- `window` meets its contract: five bytes, read or 0 beyond the end, are the number up to 2 ^ 40.
+-- `window` meets its contract: eight bytes, read or 0 beyond the end, are the number up to 2 ^ 64.
 -- Assumes nothing.
 use mathlib.Core.Path.{_∙_, sym}
 use borrow.Author.Needs.{needs}
-use Rattle.jxl_bitstream.proofs.Numbers.{five}
+use Rattle.jxl_bitstream.proofs.Numbers.{eight}
 use Rattle.jxl_bitstream.proofs.bitstream.window.Statement.{statement}
 use Rattle.jxl_bitstream.proofs.bitstream.window.Tie as tie
 
@@ -36,6 +36,24 @@ add-joined-4 c = search needs
 shared-slice-read-joined-5 : tie.Need-shared-slice-read-joined-5
 shared-slice-read-joined-5 c = search needs
 
+add-joined-5 : tie.Need-add-joined-5
+add-joined-5 c = search needs
+
+shared-slice-read-joined-6 : tie.Need-shared-slice-read-joined-6
+shared-slice-read-joined-6 c = search needs
+
+add-joined-6 : tie.Need-add-joined-6
+add-joined-6 c = search needs
+
+shared-slice-read-joined-7 : tie.Need-shared-slice-read-joined-7
+shared-slice-read-joined-7 c = search needs
+
+add-joined-7 : tie.Need-add-joined-7
+add-joined-7 c = search needs
+
+shared-slice-read-joined-8 : tie.Need-shared-slice-read-joined-8
+shared-slice-read-joined-8 c = search needs
+
 joined-requires : tie.Need-joined-requires
 joined-requires c κs = search needs
 
@@ -66,18 +84,36 @@ add-byte-or-zero-4 c = search needs
 byte-or-zero-requires-5 : tie.Need-byte-or-zero-requires-5
 byte-or-zero-requires-5 c κs = search needs
 
+add-byte-or-zero-5 : tie.Need-add-byte-or-zero-5
+add-byte-or-zero-5 c = search needs
+
+byte-or-zero-requires-6 : tie.Need-byte-or-zero-requires-6
+byte-or-zero-requires-6 c κs = search needs
+
+add-byte-or-zero-6 : tie.Need-add-byte-or-zero-6
+add-byte-or-zero-6 c = search needs
+
+byte-or-zero-requires-7 : tie.Need-byte-or-zero-requires-7
+byte-or-zero-requires-7 c κs = search needs
+
+add-byte-or-zero-7 : tie.Need-add-byte-or-zero-7
+add-byte-or-zero-7 c = search needs
+
+byte-or-zero-requires-8 : tie.Need-byte-or-zero-requires-8
+byte-or-zero-requires-8 c κs = search needs
+
 joined-requires-2 : tie.Need-joined-requires-2
 joined-requires-2 c κs = search needs
 
 returns : tie.Need-returns
 returns c =
-    let a = c .before .before .before .before .before .before .before .before .args in
-    c .joined .ensures ∙ sym (five (a .s .now) (λ i. c .before .before .before .before .before .before .before .shared-slice-known .given i .fits) (a .i))
+    let a = c .before .before .before .before .before .before .before .before .before .before .before .args in
+    c .joined .ensures ∙ sym (eight (a .s .now) (λ i. c .before .before .before .before .before .before .before .before .before .before .shared-slice-known .given i .fits) (a .i))
 
 returns-2 : tie.Need-returns-2
 returns-2 c =
-    let a = c .before .before .before .before .before .before .before .before .args in
-    cc (five (a .s .now) (λ i. c .before .before .before .before .before .before .before .shared-slice-known .given i .fits) (a .i))
+    let a = c .before .before .before .before .before .before .before .before .before .before .before .args in
+    cc (eight (a .s .now) (λ i. c .before .before .before .before .before .before .before .before .before .before .shared-slice-known .given i .fits) (a .i))
 
 pub window-spec : {M : Type 1} → statement M
 window-spec =
@@ -93,6 +129,12 @@ window-spec =
     shared-slice-read-joined-4
     add-joined-4
     shared-slice-read-joined-5
+    add-joined-5
+    shared-slice-read-joined-6
+    add-joined-6
+    shared-slice-read-joined-7
+    add-joined-7
+    shared-slice-read-joined-8
     joined-requires
     byte-or-zero-requires
     add-byte-or-zero
@@ -103,6 +145,12 @@ window-spec =
     byte-or-zero-requires-4
     add-byte-or-zero-4
     byte-or-zero-requires-5
+    add-byte-or-zero-5
+    byte-or-zero-requires-6
+    add-byte-or-zero-6
+    byte-or-zero-requires-7
+    add-byte-or-zero-7
+    byte-or-zero-requires-8
     joined-requires-2
     returns
     returns-2)

@@ -55,6 +55,7 @@ returns c =
     let l = c .before .loop in
     let past : l .i ≡ length (now (start .args .word)) = omega arith in
     record {
+      room = start .pre;
       bytes =
           l .inv .1 ∙ ap (λ (k : ℕ). paste (now (start .args .out)) (start .args .at) (now (start .args .word)) k) past
           ∙ pasted-whole (now (start .args .out)) (start .args .at) (now (start .args .word));

@@ -1,0 +1,32 @@
+-- What the functions inside rely on and answer. No public promise cites this file.
+use mathlib.Core.Bool.{Bool, _||_}
+use mathlib.Core.List.{List}
+use Prim.Native.Nat.{ℕ, _-_, _^_, _≤_}
+use lib.ListN.{length, getD}
+use Rattle.jxl_bitstream.specs.Answer.{Field, _>>=_}
+use Rattle.jxl_bitstream.specs.Bits.{end}
+use Rattle.jxl_bitstream.specs.Fields.{over, part, choice}
+use Rattle.jxl_bitstream.specs.declared.bitstream.U32Specifier.the-variants.{Constant, BitsOffset}
+use Rattle.jxl_bitstream.specs.declared.bitstream.U32Specifier.{U32Specifier}
+
+-- what `begin` leaves a reading to rely on, and what each part asks
+pub record Ready (s : List ℕ) (at n : ℕ) : Type 0 where
+  pub short : length s ≤ 2 ^ 61 - 1
+  pub within : at ≤ end s
+  pub narrow : n ≤ 32
+
+-- a choice as an offset and a width: a constant has no bits
+abbrev pub widthOf : U32Specifier → ℕ
+widthOf (Constant c) = 0
+widthOf (BitsOffset o n) = n
+
+abbrev pub offsetOf : U32Specifier → ℕ
+offsetOf (Constant c) = c
+offsetOf (BitsOffset o n) = o
+
+abbrev pub anyOver : List ℕ → Bool
+anyOver ws = over (getD ws 0 0) || over (getD ws 1 0) || over (getD ws 2 0) || over (getD ws 3 0)
+
+-- the selector, and the choice of the width and the offset that it names
+unfoldable pub selectOf : List ℕ → List ℕ → Field ℕ
+selectOf ws os = part 2 >>= λ k. choice (BitsOffset (getD os k 0) (getD ws k 0))
