@@ -259,7 +259,7 @@ fn turn_from(start: AfterTurn, base: usize, input: &[u8], out: &mut [u8]) -> Aft
     }
 }
 
-// The event, made anew.
+// The event, made anew; only one with a payload is worth it.
 fn same_event(event: Event) -> Event
     ensures { λ r. ⌜ r ≡ event ⌝ }
 {
@@ -270,7 +270,7 @@ fn same_event(event: Event) -> Event
     }
 }
 
-// The joiner, made anew field by field: a copy takes the unused bytes along, which costs more than the turn itself.
+// The joiner, made anew field by field: a copy takes the unused bytes along, which costs about as much as a turn on one payload.
 fn anew(joiner: Joiner) -> Joiner
     ensures { λ r. ⌜ r ≡ joiner ⌝ }
 {
