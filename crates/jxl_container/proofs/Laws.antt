@@ -7,29 +7,31 @@ use native.Mathlib.Omega.{arith}
 use lib.Dec.{ltb, leb, eqb}
 use lib.ListN.{length, drop, length-drop}
 use borrow.Author.Tests.{ltb-true, ltb-false, leb-true, leb-false, eqb-true, eqb-false}
-use Rattle.jxl_container.specs.Bytes.{if, be32}
-use Rattle.jxl_container.specs.Signature.{signatureOf}
-use Rattle.jxl_container.specs.Record.{Why, why, at, under, less, toEnd, refusedIn, isRefused, impossible}
-use Rattle.jxl_container.specs.Types.{jxlc, jxlp, brob, reserved}
-use Rattle.jxl_container.specs.Header.{Header, short, bad, box, headerOf}
+use Rattle.jxl_headers.specs.Bytes.{if, be32}
+use Rattle.jxl_headers.specs.Signature.{signatureOf}
+use Rattle.jxl_headers.specs.Refusals.{Why, why}
+use Rattle.jxl_headers.specs.Reach.{under, less, toEnd}
+use Rattle.jxl_container.specs.Record.{at, refusedIn, isRefused, impossible}
+use Rattle.jxl_headers.specs.Types.{jxlc, jxlp, brob, reserved}
+use Rattle.jxl_headers.specs.Header.{Header, short, bad, box, headerOf}
 use Rattle.jxl_container.specs.Step.{Told, shows, wants, refuses, refused, refuse, shifted, ahead, inCode, codePart, codeStep, auxPart, row, indexStep, innerStep, jxlcStep, jxlpNext, jxlpStep, brobStep, boxStep, headerStep, signatureStep, awaited, stateStep, stepOf}
 use Rattle.jxl_container.specs.Laws.{RefusedStays, Repeats, Inside, Kept, EveryStep}
-use Rattle.jxl_container.proofs.Header.{header-fits, header-under}
-use Rattle.jxl_container.proofs.Signature.{signature-under, signature-there}
+use Rattle.jxl_headers.proofs.Header.{header-fits, header-under}
+use Rattle.jxl_headers.proofs.Signature.{signature-under, signature-there}
 use Rattle.jxl_container.proofs.Step.{code-wants, code-pending, code-shows, index-wants, index-right, index-wrong, inner-wants, inner-reserved, inner-shows, box-jxlc, box-jxlp, box-brob, box-aux, step-empty, step-empty-refused, step-state, step-impossible}
-use Rattle.jxl_container.specs.declared.consts.Signature.{Signature}
-use Rattle.jxl_container.specs.declared.consts.Signature.the-variants as G
+use Rattle.jxl_headers.specs.declared.consts.Signature.{Signature}
+use Rattle.jxl_headers.specs.declared.consts.Signature.the-variants as G
 use Rattle.jxl_container.specs.declared.BitstreamKind.{BitstreamKind}
 use Rattle.jxl_container.specs.declared.BitstreamKind.the-variants as K
-use Rattle.jxl_container.specs.declared.Left.{Left}
-use Rattle.jxl_container.specs.declared.Left.the-variants.{ToEnd, Bytes}
+use Rattle.jxl_headers.specs.declared.Left.{Left}
+use Rattle.jxl_headers.specs.declared.Left.the-variants.{ToEnd, Bytes}
 use Rattle.jxl_container.specs.declared.JxlpIndexState.{JxlpIndexState}
 use Rattle.jxl_container.specs.declared.JxlpIndexState.the-variants.{Initial, SingleJxlc, Jxlp, JxlpFinished}
 use Rattle.jxl_container.specs.declared.DetectState.{DetectState}
 use Rattle.jxl_container.specs.declared.DetectState.the-variants as S
 use Rattle.jxl_container.specs.declared.ContainerParser.{ContainerParser}
-use Rattle.jxl_container.specs.declared.Refusal.{Refusal}
-use Rattle.jxl_container.specs.declared.Refusal.the-variants.{InvalidBox, ValidationFailed}
+use Rattle.jxl_headers.specs.declared.Refusal.{Refusal}
+use Rattle.jxl_headers.specs.declared.Refusal.the-variants.{InvalidBox, ValidationFailed}
 use Rattle.jxl_container.specs.declared.parse.Event.{Event}
 use Rattle.jxl_container.specs.declared.parse.Event.the-variants as E
 

@@ -10,19 +10,20 @@ use lib.ListN.{length, getD, take, drop, length-drop}
 use lib.Seq.{getD-drop, drop-drop}
 use borrow.Author.Tests.{lt-ltb, le-ltb, le-leb, lt-leb, eq-eqb, ne-eqb}
 use Rattle.jxl_cuts.proofs.Ahead.{ahead-twice}
-use Rattle.jxl_container.specs.Bytes.{be32, be64, empty}
-use Rattle.jxl_container.specs.Record.{at, less, toEnd, refusedIn, isRefused, impossibleIn, impossible}
-use Rattle.jxl_container.specs.Types.{jxlc, jxlp, brob, reserved}
+use Rattle.jxl_headers.specs.Bytes.{be32, be64, empty}
+use Rattle.jxl_headers.specs.Reach.{less, toEnd}
+use Rattle.jxl_container.specs.Record.{at, refusedIn, isRefused, impossibleIn, impossible}
+use Rattle.jxl_headers.specs.Types.{jxlc, jxlp, brob, reserved}
 use Rattle.jxl_container.specs.Step.{Told, shows, wants, refuses, refuse, shifted, ahead, inCode, codePart, codeStep, row, indexStep, innerStep, jxlcStep, jxlpStep, brobStep, boxStep, stateStep, stepOf, part}
 use Rattle.jxl_container.specs.declared.BitstreamKind.{BitstreamKind}
 use Rattle.jxl_container.specs.declared.BitstreamKind.the-variants as K
-use Rattle.jxl_container.specs.declared.Left.{Left}
+use Rattle.jxl_headers.specs.declared.Left.{Left}
 use Rattle.jxl_container.specs.declared.JxlpIndexState.{JxlpIndexState}
 use Rattle.jxl_container.specs.declared.JxlpIndexState.the-variants.{Jxlp}
 use Rattle.jxl_container.specs.declared.DetectState.{DetectState}
 use Rattle.jxl_container.specs.declared.DetectState.the-variants as S
 use Rattle.jxl_container.specs.declared.ContainerParser.{ContainerParser}
-use Rattle.jxl_container.specs.declared.Refusal.the-variants.{InvalidBox, ValidationFailed}
+use Rattle.jxl_headers.specs.declared.Refusal.the-variants.{InvalidBox, ValidationFailed}
 use Rattle.jxl_container.specs.declared.parse.Event.{Event}
 use Rattle.jxl_container.specs.declared.parse.Event.the-variants as E
 

@@ -5,13 +5,12 @@ use Prim.Native.Nat.{ℕ, _+_, _≤_}
 use lib.ListN.{length}
 use Rattle.jxl_base.specs.OneAnswer.{OneAnswer}
 use Rattle.jxl_cuts.specs.Machine.{Inside as PayloadInside}
-use Rattle.jxl_container.specs.Signature.{signatureOf}
-use Rattle.jxl_container.specs.Header.{headerOf, numbered, toldHeader}
-use Rattle.jxl_container.specs.Record.{Why, why, at, fresh, kindOf}
+use Rattle.jxl_headers.specs.Refusals.{Why, why}
+use Rattle.jxl_container.specs.Record.{at, fresh, kindOf}
 use Rattle.jxl_container.specs.Step.{Told, shows, wants, refuses, told, stepOf, payload, payloadOf}
 use Rattle.jxl_container.specs.declared.BitstreamKind.{BitstreamKind}
 use Rattle.jxl_container.specs.declared.JxlpIndexState.{JxlpIndexState}
-use Rattle.jxl_container.specs.declared.Refusal.{Refusal}
+use Rattle.jxl_headers.specs.declared.Refusal.{Refusal}
 use Rattle.jxl_container.specs.declared.DetectState.the-variants as S
 use Rattle.jxl_container.specs.declared.ContainerParser.{ContainerParser}
 use Rattle.jxl_container.specs.declared.parse.Event.{Event}
@@ -41,12 +40,6 @@ abbrev pub EveryStep : Type 0
 EveryStep = (p : ContainerParser) (s : List ℕ) → Kept (length s) (stepOf p s)
 
 -- one answer: each promise determines what its function gives
-abbrev pub OneSignature : Type 0
-OneSignature = (s : List ℕ) → OneAnswer (λ r. r ≡ signatureOf s)
-
-abbrev pub OneHeader : Type 0
-OneHeader = (s : List ℕ) → OneAnswer (λ r. toldHeader r ≡ numbered (headerOf s))
-
 abbrev pub OneParser : Type 0
 OneParser = OneAnswer (λ r. r ≡ fresh)
 

@@ -1,29 +1,16 @@
--- The parser's record: a new one, its kind, its refusals, and the records that no file leads to.
+-- The parser's record: a new one, its kind, and the records that no file leads to.
 use mathlib.Core.Bool.{Bool, true, false}
-use mathlib.Core.List.{List, []}
-use Prim.Native.Nat.{ℕ, _-_}
+use Prim.Native.Nat.{ℕ}
 use lib.Dec.{ltb, leb}
-use Rattle.jxl_container.specs.Bytes.{or}
+use Rattle.jxl_headers.specs.Bytes.{or}
+use Rattle.jxl_headers.specs.Reach.{under}
 use Rattle.jxl_container.specs.declared.BitstreamKind.{BitstreamKind}
 use Rattle.jxl_container.specs.declared.BitstreamKind.the-variants as K
-use Rattle.jxl_container.specs.declared.Left.{Left}
-use Rattle.jxl_container.specs.declared.Left.the-variants.{ToEnd, Bytes}
 use Rattle.jxl_container.specs.declared.JxlpIndexState.{JxlpIndexState}
 use Rattle.jxl_container.specs.declared.JxlpIndexState.the-variants.{Initial, SingleJxlc, Jxlp, JxlpFinished}
-use Rattle.jxl_container.specs.declared.Refusal.{Refusal}
-use Rattle.jxl_container.specs.declared.Refusal.the-variants.{InvalidBox, ValidationFailed}
 use Rattle.jxl_container.specs.declared.DetectState.{DetectState}
 use Rattle.jxl_container.specs.declared.DetectState.the-variants as S
 use Rattle.jxl_container.specs.declared.ContainerParser.{ContainerParser}
-
--- a refusal in the paper's words: its number, and the values that it tells
-pub data Why : Type 0 where
-  refusal : ℕ → List ℕ → Why
-
--- each refusal of the code in these words
-abbrev pub why : Refusal → Why
-why InvalidBox = refusal 1 []
-why ValidationFailed = refusal 2 []
 
 abbrev pub at : DetectState → JxlpIndexState → ContainerParser
 at state jxlp = record { state = state; jxlp = jxlp }
@@ -43,20 +30,6 @@ kindIn (S.Refused k r) = k
 
 abbrev pub kindOf : ContainerParser → BitstreamKind
 kindOf p = kindIn (p .state)
-
--- the payload has fewer than n bytes
-abbrev pub under : ℕ → Left → Bool
-under n ToEnd = false
-under n (Bytes m) = ltb m n
-
--- the payload behind its first n bytes
-abbrev pub less : Left → ℕ → Left
-less ToEnd n = ToEnd
-less (Bytes m) n = Bytes (m - n)
-
-abbrev pub toEnd : Left → Bool
-toEnd ToEnd = true
-toEnd (Bytes m) = false
 
 -- a current `jxlp` index above 2^31 - 1, with none awaited
 abbrev pub overIndex : JxlpIndexState → Bool

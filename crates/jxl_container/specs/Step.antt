@@ -6,24 +6,26 @@ use lib.Dec.{ltb, leb, eqb}
 use lib.ListN.{length, take, drop}
 use Rattle.jxl_cuts.specs.Machine.{Told as Answer, Payload, none, bytes, bytesAt, aheadBy}
 pub use Rattle.jxl_cuts.specs.Machine.{shows, wants, refuses}
-use Rattle.jxl_container.specs.Bytes.{if, and, or, be32, empty}
-use Rattle.jxl_container.specs.Signature.{signatureOf}
-use Rattle.jxl_container.specs.Record.{Why, why, at, kindOf, under, less, toEnd, impossible, isRefused}
-use Rattle.jxl_container.specs.Header.{Header, short, bad, box, headerOf}
-use Rattle.jxl_container.specs.Types.{jxlc, jxlp, brob, reserved}
-use Rattle.jxl_container.specs.declared.consts.Signature.{Signature}
-use Rattle.jxl_container.specs.declared.consts.Signature.the-variants as G
+use Rattle.jxl_headers.specs.Bytes.{if, and, or, be32, empty}
+use Rattle.jxl_headers.specs.Signature.{signatureOf}
+use Rattle.jxl_headers.specs.Refusals.{Why, why}
+use Rattle.jxl_headers.specs.Reach.{under, less, toEnd}
+use Rattle.jxl_container.specs.Record.{at, kindOf, impossible, isRefused}
+use Rattle.jxl_headers.specs.Header.{Header, short, bad, box, headerOf}
+use Rattle.jxl_headers.specs.Types.{jxlc, jxlp, brob, reserved}
+use Rattle.jxl_headers.specs.declared.consts.Signature.{Signature}
+use Rattle.jxl_headers.specs.declared.consts.Signature.the-variants as G
 use Rattle.jxl_container.specs.declared.BitstreamKind.{BitstreamKind}
 use Rattle.jxl_container.specs.declared.BitstreamKind.the-variants as K
-use Rattle.jxl_container.specs.declared.Left.{Left}
-use Rattle.jxl_container.specs.declared.Left.the-variants.{ToEnd, Bytes}
+use Rattle.jxl_headers.specs.declared.Left.{Left}
+use Rattle.jxl_headers.specs.declared.Left.the-variants.{ToEnd, Bytes}
 use Rattle.jxl_container.specs.declared.JxlpIndexState.{JxlpIndexState}
 use Rattle.jxl_container.specs.declared.JxlpIndexState.the-variants.{Initial, SingleJxlc, Jxlp, JxlpFinished}
 use Rattle.jxl_container.specs.declared.DetectState.{DetectState}
 use Rattle.jxl_container.specs.declared.DetectState.the-variants as S
 use Rattle.jxl_container.specs.declared.ContainerParser.{ContainerParser}
-use Rattle.jxl_container.specs.declared.Refusal.{Refusal}
-use Rattle.jxl_container.specs.declared.Refusal.the-variants.{InvalidBox, ValidationFailed}
+use Rattle.jxl_headers.specs.declared.Refusal.{Refusal}
+use Rattle.jxl_headers.specs.declared.Refusal.the-variants.{InvalidBox, ValidationFailed}
 use Rattle.jxl_container.specs.declared.parse.Event.{Event}
 use Rattle.jxl_container.specs.declared.parse.Event.the-variants as E
 use Rattle.jxl_container.specs.declared.parse.Step.{Step}

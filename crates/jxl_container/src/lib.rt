@@ -1,10 +1,13 @@
 // The JPEG XL container, after the Rust's container.rs: the parser as a record that goes in by value and comes back.
 ghost use mathlib.Core.Path.{_≡_};
-ghost use Rattle.jxl_container.specs.Record.{at, fresh, impossible, kindOf, less, noIndex, overIndex, toEnd, under};
+ghost use Rattle.jxl_container.specs.Record.{at, fresh, impossible, kindOf, noIndex, overIndex};
 
-pub mod box_header;
-pub mod consts;
 pub mod parse;
+
+pub use jxl_headers::Left;
+pub use jxl_headers::Refusal;
+pub use jxl_headers::box_header;
+pub use jxl_headers::consts;
 
 // Structure of the decoded bitstream.
 pub enum BitstreamKind {
@@ -18,12 +21,6 @@ pub enum BitstreamKind {
     Invalid,
 }
 
-// How far a payload reaches: to the end of the file, or so many bytes more.
-pub enum Left {
-    ToEnd,
-    Bytes(u64),
-}
-
 // The `jxlc` and `jxlp` boxes so far: none, one `jxlc`, a row of `jxlp` with the index of the newest, a whole row.
 pub enum JxlpIndexState {
     Initial,
@@ -32,57 +29,13 @@ pub enum JxlpIndexState {
     JxlpFinished,
 }
 
-// Why a parser refuses. The number of each in the paper is `why` of specs/Record.antt.
-pub enum Refusal {
-    InvalidBox,
-    ValidationFailed,
-}
-
-impl Left {
-    // The same, made anew field by field: a copy takes the unused bytes along, which costs more than the step itself.
-    pub(crate) fn same(self) -> Left
-        ensures { λ r. ⌜ r ≡ self ⌝ }
-    {
-        match self {
-            Left::ToEnd => Left::ToEnd,
-            Left::Bytes(m) => Left::Bytes(m),
-        }
-    }
-
-    // Whether the payload has fewer than `n` bytes.
-    pub(crate) fn under(self, n: u64) -> bool
-        ensures { λ r. ⌜ r ≡ under n self ⌝ }
-    {
-        match self {
-            Left::ToEnd => false,
-            Left::Bytes(m) => m < n,
-        }
-    }
-
-    // The payload behind its first `n` bytes.
-    pub(crate) fn less(self, n: u64) -> Left
-        ensures { λ r. ⌜ r ≡ less self n ⌝ }
-    {
-        match self {
-            Left::ToEnd => Left::ToEnd,
-            Left::Bytes(m) => {
-                if m < n {
-                    Left::Bytes(0)
-                } else {
-                    Left::Bytes(m - n)
-                }
-            }
-        }
-    }
-
-    // Whether the payload runs to the end of the file.
-    pub(crate) fn to_end(self) -> bool
-        ensures { λ r. ⌜ r ≡ toEnd self ⌝ }
-    {
-        match self {
-            Left::ToEnd => true,
-            Left::Bytes(_) => false,
-        }
+// The same reach, made anew field by field: a copy takes the unused bytes along, which costs more than the step itself.
+fn anew(left: Left) -> Left
+    ensures { λ r. ⌜ r ≡ left ⌝ }
+{
+    match left {
+        Left::ToEnd => Left::ToEnd,
+        Left::Bytes(m) => Left::Bytes(m),
     }
 }
 
@@ -171,13 +124,13 @@ impl ContainerParser {
                 ContainerParser::at(DetectState::WaitingBoxHeader, jxlp)
             }
             DetectState::WaitingJxlpIndex(left) => {
-                ContainerParser::at(DetectState::WaitingJxlpIndex(left.same()), jxlp)
+                ContainerParser::at(DetectState::WaitingJxlpIndex(anew(left)), jxlp)
             }
             DetectState::WaitingInnerType(left) => {
-                ContainerParser::at(DetectState::WaitingInnerType(left.same()), jxlp)
+                ContainerParser::at(DetectState::WaitingInnerType(anew(left)), jxlp)
             }
             DetectState::InAuxBox { ty, left } => {
-                let l = left.same();
+                let l = anew(left);
                 ContainerParser::at(DetectState::InAuxBox { ty, left: l }, jxlp)
             }
             DetectState::InCodestream {
@@ -185,7 +138,7 @@ impl ContainerParser {
                 left,
                 pending_no_more_aux_box,
             } => {
-                let l = left.same();
+                let l = anew(left);
                 let anew = DetectState::InCodestream {
                     kind,
                     left: l,

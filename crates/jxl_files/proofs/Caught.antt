@@ -3,7 +3,7 @@ use mathlib.Core.Path.{_≡_, ap}
 use mathlib.Core.List.{List, [], _∷_}
 use Prim.Native.Nat.{ℕ}
 use native.Mathlib.Omega.{arith}
-use Rattle.jxl_container.specs.Signature.{signatureOf}
+use Rattle.jxl_headers.specs.Signature.{signatureOf}
 use Rattle.jxl_container.specs.Step.{stepOf}
 use Rattle.jxl_cuts.specs.Feeding.{taking, fed}
 use Rattle.jxl_files.specs.Grammar.{Listing, file}

@@ -10,22 +10,23 @@ use lib.Dec.{ltb, leb, eqb}
 use lib.ListN.{length, drop, length-append}
 use lib.Seq.{drop-append-le}
 use borrow.Author.Tests.{le-ltb, le-leb, lt-leb, eq-eqb, ne-eqb, ltb-true, ltb-false, leb-true, leb-false, eqb-true, eqb-false}
-use Rattle.jxl_container.specs.Bytes.{if, and, or, be32}
-use Rattle.jxl_container.specs.Record.{at, under, less, toEnd, overIndex, impossibleIn, impossible, isRefused}
-use Rattle.jxl_container.specs.Header.{Header, short, bad, box, headerOf}
-use Rattle.jxl_container.specs.Signature.{signatureOf}
-use Rattle.jxl_container.specs.Types.{jxlc, jxlp, brob, reserved}
+use Rattle.jxl_headers.specs.Bytes.{if, and, or, be32}
+use Rattle.jxl_headers.specs.Reach.{under, less, toEnd}
+use Rattle.jxl_container.specs.Record.{at, overIndex, impossibleIn, impossible, isRefused}
+use Rattle.jxl_headers.specs.Header.{Header, short, bad, box, headerOf}
+use Rattle.jxl_headers.specs.Signature.{signatureOf}
+use Rattle.jxl_headers.specs.Types.{jxlc, jxlp, brob, reserved}
 use Rattle.jxl_container.specs.Step.{Told, shows, wants, refuses, shifted, ahead, inCode, codePart, codeStep, auxPart, row, indexStep, innerStep, jxlcStep, jxlpNext, jxlpStep, brobStep, boxStep, headerStep, signatureStep, stateStep, stepOf}
 use Rattle.jxl_container.proofs.Step.{ahead-zero, code-wants, code-pending, code-shows, index-wants, index-right, index-wrong, inner-wants, inner-reserved, inner-shows, box-jxlc, box-jxlp, box-brob, box-aux, step-empty, step-state, step-impossible}
 use Rattle.jxl_container.proofs.Laws.{stays}
-use Rattle.jxl_container.proofs.Header.{header-fits, header-short}
-use Rattle.jxl_container.proofs.Signature.{is-short-bare}
-use Rattle.jxl_container.specs.declared.consts.Signature.{Signature}
-use Rattle.jxl_container.specs.declared.consts.Signature.the-variants as G
+use Rattle.jxl_headers.proofs.Header.{header-fits, header-short}
+use Rattle.jxl_headers.proofs.Signature.{is-short-bare}
+use Rattle.jxl_headers.specs.declared.consts.Signature.{Signature}
+use Rattle.jxl_headers.specs.declared.consts.Signature.the-variants as G
 use Rattle.jxl_container.specs.declared.BitstreamKind.{BitstreamKind}
 use Rattle.jxl_container.specs.declared.BitstreamKind.the-variants as K
-use Rattle.jxl_container.specs.declared.Left.{Left}
-use Rattle.jxl_container.specs.declared.Left.the-variants.{ToEnd, Bytes}
+use Rattle.jxl_headers.specs.declared.Left.{Left}
+use Rattle.jxl_headers.specs.declared.Left.the-variants.{ToEnd, Bytes}
 use Rattle.jxl_container.specs.declared.JxlpIndexState.{JxlpIndexState}
 use Rattle.jxl_container.specs.declared.JxlpIndexState.the-variants.{Initial, SingleJxlc, Jxlp, JxlpFinished}
 use Rattle.jxl_container.specs.declared.DetectState.{DetectState}

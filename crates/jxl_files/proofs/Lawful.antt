@@ -6,7 +6,8 @@ use mathlib.Core.List.{List}
 use Prim.Native.Nat.{ℕ, _≤_}
 use native.Mathlib.Omega.{arith}
 use lib.ListN.{length}
-use Rattle.jxl_container.specs.Record.{Why, isRefused}
+use Rattle.jxl_headers.specs.Refusals.{Why}
+use Rattle.jxl_container.specs.Record.{isRefused}
 use Rattle.jxl_container.specs.Step.{Told, stepOf}
 use Rattle.jxl_container.specs.Laws as Step
 use Rattle.jxl_container.proofs.Step.{step-empty}

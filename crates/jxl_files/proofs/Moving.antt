@@ -5,7 +5,7 @@ use Prim.Native.Nat.{ℕ, _+_}
 use native.Mathlib.Omega.{arith}
 use lib.Dec.{eqb}
 use borrow.Author.Tests.{eqb-true, eqb-false, eq-eqb, ne-eqb}
-use Rattle.jxl_container.specs.Bytes.{and}
+use Rattle.jxl_headers.specs.Bytes.{and}
 use Rattle.jxl_container.specs.Step.{shifted, payload}
 use Rattle.jxl_container.proofs.Step.{shifted-shifted}
 use Rattle.jxl_container.specs.declared.parse.Event.{Event}

@@ -10,17 +10,18 @@ use lib.Dec.{ltb, leb, eqb}
 use lib.ListN.{length, drop}
 use Rattle.jxl_cuts.specs.Feeding.{Stop as Stops}
 pub use Rattle.jxl_cuts.specs.Feeding.{want, refused}
-use Rattle.jxl_container.specs.Bytes.{be32}
-use Rattle.jxl_container.specs.Signature.{signatureOf}
-use Rattle.jxl_container.specs.Record.{Why, refusal, why, under, less, toEnd}
-use Rattle.jxl_container.specs.Types.{jxlc, jxlp, brob, reserved}
-use Rattle.jxl_container.specs.Header.{Header, short, bad, box, headerOf}
-use Rattle.jxl_container.specs.declared.consts.Signature.{Signature}
-use Rattle.jxl_container.specs.declared.consts.Signature.the-variants as G
+use Rattle.jxl_headers.specs.Bytes.{be32}
+use Rattle.jxl_headers.specs.Signature.{signatureOf}
+use Rattle.jxl_headers.specs.Refusals.{Why, refusal, why}
+use Rattle.jxl_headers.specs.Reach.{under, less, toEnd}
+use Rattle.jxl_headers.specs.Types.{jxlc, jxlp, brob, reserved}
+use Rattle.jxl_headers.specs.Header.{Header, short, bad, box, headerOf}
+use Rattle.jxl_headers.specs.declared.consts.Signature.{Signature}
+use Rattle.jxl_headers.specs.declared.consts.Signature.the-variants as G
 use Rattle.jxl_container.specs.declared.BitstreamKind.{BitstreamKind}
 use Rattle.jxl_container.specs.declared.BitstreamKind.the-variants as K
-use Rattle.jxl_container.specs.declared.Left.{Left}
-use Rattle.jxl_container.specs.declared.Left.the-variants.{ToEnd, Bytes}
+use Rattle.jxl_headers.specs.declared.Left.{Left}
+use Rattle.jxl_headers.specs.declared.Left.the-variants.{ToEnd, Bytes}
 use Rattle.jxl_container.specs.declared.parse.Event.{Event}
 use Rattle.jxl_container.specs.declared.parse.Event.the-variants as E
 

@@ -2,7 +2,7 @@
 use mathlib.Core.Bool.{Bool, false}
 use Prim.Native.Nat.{ℕ, _+_}
 use lib.Dec.{eqb}
-use Rattle.jxl_container.specs.Bytes.{and}
+use Rattle.jxl_headers.specs.Bytes.{and}
 use Rattle.jxl_container.specs.declared.parse.Event.{Event}
 use Rattle.jxl_container.specs.declared.parse.Event.the-variants as E
 

@@ -3,7 +3,7 @@ use mathlib.Core.Bool.{Bool}
 use mathlib.Core.List.{List, [], _∷_, _++_}
 use Prim.Native.Nat.{ℕ, _+_, _-_, _/_, _^_, _<_, min}
 use lib.Dec.{ltb}
-use Rattle.jxl_container.specs.Bytes.{if, and}
+use Rattle.jxl_headers.specs.Bytes.{if, and}
 use Rattle.jxl_container.specs.declared.parse.Event.{Event}
 use Rattle.jxl_files.specs.Joined.{joins, lengthOf, endOf, longer}
 use Rattle.jxl_files.specs.declared.Held.{Held}

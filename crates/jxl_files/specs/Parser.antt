@@ -1,7 +1,7 @@
 -- The container parser as a machine that is fed.
 use mathlib.Core.List.{List}
 use Prim.Native.Nat.{ℕ}
-use Rattle.jxl_container.specs.Record.{Why}
+use Rattle.jxl_headers.specs.Refusals.{Why}
 use Rattle.jxl_container.specs.Step.{Told, shifted, stepOf, payload}
 use Rattle.jxl_container.specs.declared.ContainerParser.{ContainerParser}
 use Rattle.jxl_container.specs.declared.parse.Event.{Event}

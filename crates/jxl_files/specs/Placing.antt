@@ -1,7 +1,7 @@
 -- An event of a step, given its place in the file.
 use Prim.Native.Nat.{ℕ, _^_}
 use lib.Dec.{ltb}
-use Rattle.jxl_container.specs.Bytes.{if}
+use Rattle.jxl_headers.specs.Bytes.{if}
 use Rattle.jxl_container.specs.Step.{shifted}
 use Rattle.jxl_container.specs.declared.parse.Event.{Event}
 use Rattle.jxl_files.specs.Joined.{endOf}

@@ -4,7 +4,8 @@ use mathlib.Core.Bool.{false}
 use mathlib.Core.List.{List, [], _∷_}
 use Prim.Native.Nat.{ℕ, _+_, _/_, _<_, _≤_, _^_}
 use lib.ListN.{length}
-use Rattle.jxl_container.specs.Record.{Why, refusal, fresh, isRefused, kindOf}
+use Rattle.jxl_headers.specs.Refusals.{Why, refusal}
+use Rattle.jxl_container.specs.Record.{fresh, isRefused, kindOf}
 use Rattle.jxl_container.specs.Step.{Told, shows, wants, refuses, stepOf}
 use Rattle.jxl_container.specs.declared.BitstreamKind.{BitstreamKind}
 use Rattle.jxl_container.specs.declared.BitstreamKind.the-variants as K

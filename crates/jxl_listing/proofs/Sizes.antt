@@ -5,7 +5,7 @@ use mathlib.Core.List.{[], _∷_, _++_, append-assoc}
 use Prim.Native.Nat.{ℕ, _+_, _≤_}
 use native.Mathlib.Omega.{arith}
 use lib.ListN.{length, length-append}
-use Rattle.jxl_container.specs.Bytes.{if}
+use Rattle.jxl_headers.specs.Bytes.{if}
 use Rattle.jxl_container.specs.declared.BitstreamKind.{BitstreamKind}
 use Rattle.jxl_container.specs.declared.BitstreamKind.the-variants as K
 use Rattle.jxl_container.specs.declared.parse.Event.the-variants as E

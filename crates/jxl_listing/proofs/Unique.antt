@@ -2,7 +2,7 @@
 use mathlib.Core.Path.{sym, _∙_}
 use lib.ListN.{length}
 use Rattle.jxl_base.proofs.OneAnswer.{one-named}
-use Rattle.jxl_container.specs.Record.{why}
+use Rattle.jxl_headers.specs.Refusals.{why}
 use Rattle.jxl_listing.specs.Lines.{printed, text}
 use Rattle.jxl_listing.specs.Theorems.{OnePut, OneLineLength, OneRefused}
 

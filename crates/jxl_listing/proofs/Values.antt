@@ -7,7 +7,7 @@ use native.Mathlib.Nat.{not-suc-le-zero, pow-suc}
 use native.Mathlib.Omega.{arith}
 use lib.Dec.{ltb}
 use borrow.Author.Tests.{lt-ltb, le-ltb, ltb-true, ltb-false}
-use Rattle.jxl_container.specs.Bytes.{if}
+use Rattle.jxl_headers.specs.Bytes.{if}
 use Rattle.jxl_listing.specs.Digits.{glyph, hexDigits, hex8, decimalIn, decimal}
 
 -- the digit that a character says

@@ -2,7 +2,7 @@
 use mathlib.Core.List.{List, [], _∷_, _++_}
 use Prim.Native.Nat.{ℕ, zero, suc, _+_, _/_, _%_}
 use lib.Dec.{ltb}
-use Rattle.jxl_container.specs.Bytes.{if}
+use Rattle.jxl_headers.specs.Bytes.{if}
 
 -- the character of a digit below 16: `0` to `9`, then `a` to `f`
 abbrev pub glyph : ℕ → ℕ

@@ -3,8 +3,8 @@ use mathlib.Core.Bool.{Bool, true, false}
 use mathlib.Core.List.{List, [], _∷_, _++_}
 use Prim.Native.Nat.{ℕ, _^_, _<_}
 use lib.Dec.{eqb}
-use Rattle.jxl_container.specs.Bytes.{if}
-use Rattle.jxl_container.specs.Record.{Why, refusal}
+use Rattle.jxl_headers.specs.Bytes.{if}
+use Rattle.jxl_headers.specs.Refusals.{Why, refusal}
 use Rattle.jxl_container.specs.declared.BitstreamKind.{BitstreamKind}
 use Rattle.jxl_container.specs.declared.BitstreamKind.the-variants as K
 use Rattle.jxl_container.specs.declared.parse.Event.{Event}

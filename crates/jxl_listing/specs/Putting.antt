@@ -4,7 +4,7 @@ use mathlib.Core.List.{List, _++_}
 use Prim.Native.Nat.{ℕ, _+_, _≤_}
 use lib.Dec.{leb}
 use lib.ListN.{length, take, drop}
-use Rattle.jxl_container.specs.Bytes.{if}
+use Rattle.jxl_headers.specs.Bytes.{if}
 use Rattle.jxl_listing.specs.declared.Put.{Put}
 use Rattle.jxl_listing.specs.declared.Put.the-variants.{Written, NoRoom}
 

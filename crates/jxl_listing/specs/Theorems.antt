@@ -4,8 +4,8 @@ use mathlib.Core.List.{List}
 use Prim.Native.Nat.{ℕ, _≤_}
 use lib.ListN.{length}
 use Rattle.jxl_base.specs.OneAnswer.{OneAnswer, OneAnswerAndBuffer}
-use Rattle.jxl_container.specs.Record.{why}
-use Rattle.jxl_container.specs.declared.Refusal.{Refusal}
+use Rattle.jxl_headers.specs.Refusals.{why}
+use Rattle.jxl_headers.specs.declared.Refusal.{Refusal}
 use Rattle.jxl_listing.specs.Lines.{printed, text, InRange}
 use Rattle.jxl_listing.specs.Putting.{leaves, putOf}
 use Rattle.jxl_listing.specs.declared.Line.{Line}

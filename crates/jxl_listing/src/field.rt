@@ -3,7 +3,7 @@ ghost use mathlib.Core.Path.{_≡_};
 ghost use mathlib.Core.List.{[], _∷_};
 ghost use Prim.Native.Nat.{_+_, _/_, _%_, _≤_, _<_};
 ghost use lib.ListN.{length};
-ghost use Rattle.jxl_container.specs.Bytes.{if};
+ghost use Rattle.jxl_headers.specs.Bytes.{if};
 ghost use Rattle.jxl_listing.specs.Digits as Digits;
 ghost use Rattle.jxl_listing.specs.Putting.{Pasted};
 

@@ -6,7 +6,7 @@ ghost use mathlib.Core.Path.{_≡_};
 ghost use mathlib.Core.List.{[], _∷_, _++_};
 ghost use Prim.Native.Nat.{_+_, _≤_};
 ghost use lib.ListN.{length};
-ghost use Rattle.jxl_container.specs.Record.{why};
+ghost use Rattle.jxl_headers.specs.Refusals.{why};
 ghost use Rattle.jxl_listing.specs.Digits.{decimal};
 ghost use Rattle.jxl_listing.specs.Lines.{printed, rest, stopWord, text};
 ghost use Rattle.jxl_listing.specs.Lines as Lines;

@@ -4,9 +4,9 @@ use mathlib.Core.Bool.{true, false}
 use mathlib.Core.List.{List, [], _∷_, _++_}
 use Prim.Native.Nat.{ℕ, _-_, _^_}
 use lib.Ieee.{binary32, ofBits}
-use Rattle.jxl_container.specs.Record.{refusal}
-use Rattle.jxl_container.specs.Signature.{signatureOf, containerSig}
-use Rattle.jxl_container.specs.Header.{headerOf, extended}
+use Rattle.jxl_headers.specs.Refusals.{refusal}
+use Rattle.jxl_headers.specs.Signature.{signatureOf, containerSig}
+use Rattle.jxl_headers.specs.Header.{headerOf, extended}
 use Rattle.jxl_container.specs.declared.BitstreamKind.the-variants as K
 use Rattle.jxl_container.specs.declared.parse.Event.{Event}
 use Rattle.jxl_container.specs.declared.parse.Event.the-variants as E

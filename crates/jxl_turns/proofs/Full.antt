@@ -8,7 +8,7 @@ use native.Mathlib.Omega.{arith}
 use lib.Dec.{ltb}
 use lib.ListN.{length, drop, length-append, length-drop}
 use borrow.Author.Tests.{ltb-true}
-use Rattle.jxl_container.specs.Bytes.{if, and}
+use Rattle.jxl_headers.specs.Bytes.{if, and}
 use Rattle.jxl_container.specs.Laws.{Inside}
 use Rattle.jxl_container.specs.Step.{shifted}
 use Rattle.jxl_container.specs.declared.ContainerParser.{ContainerParser}

@@ -8,7 +8,7 @@ use native.Mathlib.Omega.{arith}
 use lib.Dec.{leb, ltb}
 use lib.ListN.{length, drop}
 use borrow.Author.Tests.{leb-true, leb-false, ltb-true, ltb-false}
-use Rattle.jxl_container.specs.Record.{Why}
+use Rattle.jxl_headers.specs.Refusals.{Why}
 use Rattle.jxl_container.specs.Step.{Told, shows, wants, refuses, shifted, stepOf}
 use Rattle.jxl_container.specs.declared.ContainerParser.{ContainerParser}
 use Rattle.jxl_container.specs.declared.parse.Event.{Event}

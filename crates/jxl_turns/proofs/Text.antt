@@ -6,7 +6,8 @@ use native.Mathlib.Omega.{arith}
 use lib.ListN.{length, take, drop, length-append, length-drop}
 use lib.Seq.{take-all, drop-drop}
 use Rattle.jxl_container.specs.Laws.{Inside}
-use Rattle.jxl_container.specs.Record.{Why, fresh}
+use Rattle.jxl_headers.specs.Refusals.{Why}
+use Rattle.jxl_container.specs.Record.{fresh}
 use Rattle.jxl_container.specs.Step.{Told, shows, wants, refuses, shifted, stepOf, told}
 use Rattle.jxl_container.proofs.Laws.{every-step}
 use Rattle.jxl_container.specs.declared.ContainerParser.{ContainerParser}

@@ -5,7 +5,7 @@ use native.Mathlib.Omega.{arith}
 use lib.ListN.{length, drop}
 use denote.Ref.{now}
 use borrow.Author.Needs.{needs}
-use Rattle.jxl_container.specs.Record.{why}
+use Rattle.jxl_headers.specs.Refusals.{why}
 use Rattle.jxl_container.specs.Step.{shows, wants, refuses, stepOf, told}
 use Rattle.jxl_files.specs.Feeding.{Seen}
 use Rattle.jxl_listing.specs.Putting.{leaves}

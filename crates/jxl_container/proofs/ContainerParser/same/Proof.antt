@@ -18,8 +18,8 @@ at-requires-2 c κs = search needs
 enum-known-state : tie.Need-enum-known-state
 enum-known-state c = search needs
 
-same-requires : tie.Need-same-requires
-same-requires c κs = search needs
+anew-requires : tie.Need-anew-requires
+anew-requires c κs = search needs
 
 at-requires-3 : tie.Need-at-requires-3
 at-requires-3 c κs = search needs
@@ -27,8 +27,8 @@ at-requires-3 c κs = search needs
 enum-known-state-2 : tie.Need-enum-known-state-2
 enum-known-state-2 c = search needs
 
-same-requires-2 : tie.Need-same-requires-2
-same-requires-2 c κs = search needs
+anew-requires-2 : tie.Need-anew-requires-2
+anew-requires-2 c κs = search needs
 
 at-requires-4 : tie.Need-at-requires-4
 at-requires-4 c κs = search needs
@@ -36,8 +36,8 @@ at-requires-4 c κs = search needs
 enum-known-state-3 : tie.Need-enum-known-state-3
 enum-known-state-3 c = search needs
 
-same-requires-3 : tie.Need-same-requires-3
-same-requires-3 c κs = search needs
+anew-requires-3 : tie.Need-anew-requires-3
+anew-requires-3 c κs = search needs
 
 at-requires-5 : tie.Need-at-requires-5
 at-requires-5 c κs = search needs
@@ -45,8 +45,8 @@ at-requires-5 c κs = search needs
 enum-known-state-4 : tie.Need-enum-known-state-4
 enum-known-state-4 c = search needs
 
-same-requires-4 : tie.Need-same-requires-4
-same-requires-4 c κs = search needs
+anew-requires-4 : tie.Need-anew-requires-4
+anew-requires-4 c κs = search needs
 
 at-requires-6 : tie.Need-at-requires-6
 at-requires-6 c κs = search needs
@@ -64,16 +64,16 @@ returns-2 : tie.Need-returns-2
 returns-2 c = rw (c .at2 .ensures, c .before .enum-told2 .given .1)
 
 returns-3 : tie.Need-returns-3
-returns-3 c = rw (c .at3 .ensures, c .before .same .ensures, c .before .before .before .state .given .1)
+returns-3 c = rw (c .at3 .ensures, c .before .anew .ensures, c .before .before .before .state .given .1)
 
 returns-4 : tie.Need-returns-4
-returns-4 c = rw (c .at4 .ensures, c .before .same2 .ensures, c .before .before .before .state2 .given .1)
+returns-4 c = rw (c .at4 .ensures, c .before .anew2 .ensures, c .before .before .before .state2 .given .1)
 
 returns-5 : tie.Need-returns-5
-returns-5 c = rw (c .at5 .ensures, c .before .same3 .ensures, c .before .before .before .state3 .given .1)
+returns-5 c = rw (c .at5 .ensures, c .before .anew3 .ensures, c .before .before .before .state3 .given .1)
 
 returns-6 : tie.Need-returns-6
-returns-6 c = rw (c .at6 .ensures, c .before .same4 .ensures, c .before .before .before .state4 .given .1)
+returns-6 c = rw (c .at6 .ensures, c .before .anew4 .ensures, c .before .before .before .state4 .given .1)
 
 returns-7 : tie.Need-returns-7
 returns-7 c = rw (c .at7 .ensures, c .before .before .state5 .given .1)
@@ -87,16 +87,16 @@ same-spec =
     enum-told-2
     at-requires-2
     enum-known-state
-    same-requires
+    anew-requires
     at-requires-3
     enum-known-state-2
-    same-requires-2
+    anew-requires-2
     at-requires-4
     enum-known-state-3
-    same-requires-3
+    anew-requires-3
     at-requires-5
     enum-known-state-4
-    same-requires-4
+    anew-requires-4
     at-requires-6
     enum-known-state-5
     at-requires-7

@@ -1,7 +1,7 @@
 use mathlib.Core.Path.{_≡_, sym, ap, _∙_}
 use denote.Ref.{now}
-use Rattle.jxl_container.specs.Header.{short, bad, box, toldHeader}
-use Rattle.jxl_container.proofs.Header.{header-fits, says}
+use Rattle.jxl_headers.specs.Header.{short, bad, box, toldHeader}
+use Rattle.jxl_headers.proofs.Header.{header-fits, says}
 use borrow.Author.Needs.{needs}
 use Rattle.jxl_container.proofs.parse.header_step.Statement.{statement}
 use Rattle.jxl_container.proofs.parse.header_step.Tie as tie

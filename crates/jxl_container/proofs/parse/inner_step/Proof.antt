@@ -1,6 +1,6 @@
 use mathlib.Core.Path.{_≡_, sym, ap, _∙_}
 use denote.Ref.{now}
-use Rattle.jxl_container.specs.Types.{reserved}
+use Rattle.jxl_headers.specs.Types.{reserved}
 use Rattle.jxl_container.proofs.Step.{far-inner-wants, far-inner-reserved, far-inner-shows}
 use borrow.Author.Needs.{needs}
 use Rattle.jxl_container.proofs.parse.inner_step.Statement.{statement}

@@ -1,0 +1,4 @@
+pub mod Bytes
+pub mod Signature
+pub mod Header
+pub mod Unique

@@ -1,0 +1,7 @@
+pub mod Bytes
+pub mod Signature
+pub mod Types
+pub mod Refusals
+pub mod Reach
+pub mod Header
+pub mod Theorems

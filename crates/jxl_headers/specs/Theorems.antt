@@ -1,0 +1,28 @@
+-- One answer: each promise determines what its function gives; proofs/Unique.antt has a proof of each under the same name in small letters.
+use mathlib.Core.Path.{_≡_}
+use mathlib.Core.List.{List}
+use Prim.Native.Nat.{ℕ}
+use Rattle.jxl_base.specs.OneAnswer.{OneAnswer}
+use Rattle.jxl_headers.specs.Bytes.{be32}
+use Rattle.jxl_headers.specs.Signature.{signatureOf}
+use Rattle.jxl_headers.specs.Reach.{under, less, toEnd}
+use Rattle.jxl_headers.specs.Header.{headerOf, numbered, toldHeader}
+use Rattle.jxl_headers.specs.declared.Left.{Left}
+
+abbrev pub OneSignature : Type 0
+OneSignature = (s : List ℕ) → OneAnswer (λ r. r ≡ signatureOf s)
+
+abbrev pub OneHeader : Type 0
+OneHeader = (s : List ℕ) → OneAnswer (λ r. toldHeader r ≡ numbered (headerOf s))
+
+abbrev pub OneWord : Type 0
+OneWord = (s : List ℕ) (at : ℕ) → OneAnswer (λ r. r ≡ be32 s at)
+
+abbrev pub OneUnder : Type 0
+OneUnder = (l : Left) (n : ℕ) → OneAnswer (λ r. r ≡ under n l)
+
+abbrev pub OneLess : Type 0
+OneLess = (l : Left) (n : ℕ) → OneAnswer (λ r. r ≡ less l n)
+
+abbrev pub OneToEnd : Type 0
+OneToEnd = (l : Left) → OneAnswer (λ r. r ≡ toEnd l)

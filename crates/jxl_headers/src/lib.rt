@@ -1,0 +1,56 @@
+// What the container's headers say: the two signatures, box types, one box header, how far a payload reaches, and why a parser refuses.
+ghost use mathlib.Core.Path.{_≡_};
+ghost use Rattle.jxl_headers.specs.Reach.{less, toEnd, under};
+
+pub mod box_header;
+pub mod consts;
+
+// How far a payload reaches: to the end of the file, or so many bytes more.
+pub enum Left {
+    ToEnd,
+    Bytes(u64),
+}
+
+// Why a parser refuses. The number of each in the paper, and what it tells, is `why` of specs/Refusals.antt.
+pub enum Refusal {
+    InvalidBox,
+    ValidationFailed,
+}
+
+impl Left {
+    // Whether the payload has fewer than `n` bytes.
+    pub fn under(self, n: u64) -> bool
+        ensures { λ r. ⌜ r ≡ under n self ⌝ }
+    {
+        match self {
+            Left::ToEnd => false,
+            Left::Bytes(m) => m < n,
+        }
+    }
+
+    // The payload behind its first `n` bytes.
+    pub fn less(self, n: u64) -> Left
+        ensures { λ r. ⌜ r ≡ less self n ⌝ }
+    {
+        match self {
+            Left::ToEnd => Left::ToEnd,
+            Left::Bytes(m) => {
+                if m < n {
+                    Left::Bytes(0)
+                } else {
+                    Left::Bytes(m - n)
+                }
+            }
+        }
+    }
+
+    // Whether the payload runs to the end of the file.
+    pub fn to_end(self) -> bool
+        ensures { λ r. ⌜ r ≡ toEnd self ⌝ }
+    {
+        match self {
+            Left::ToEnd => true,
+            Left::Bytes(_) => false,
+        }
+    }
+}
