@@ -1,4 +1,3 @@
-pub mod Unpack
 pub mod Numbers
 pub mod Order
 pub mod Parts

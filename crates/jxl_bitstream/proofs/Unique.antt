@@ -11,9 +11,8 @@ use Rattle.jxl_bitstream.specs.Fields.{read, peek, consume, skip, pad, b
 use Rattle.jxl_base.specs.OneAnswer.{OneAnswer}
 use Rattle.jxl_base.proofs.OneAnswer.{one-named, one-told}
 use Rattle.jxl_bitstream.specs.Refusals.{eof, padding, float, enum, width, numbered, tells}
-use Rattle.jxl_bitstream.specs.Theorems.{OneOf, OnePeekBits, OneReadBits, OneConsumeBits, OneSkipBits, OneZeroPadToByte, OneReadBool, OneReadU32, OneReadU64, OneReadEnum, OneReadF16AsF32, OneNumReadBits, OneUnpackSigned}
+use Rattle.jxl_bitstream.specs.Theorems.{OneOf, OnePeekBits, OneReadBits, OneConsumeBits, OneSkipBits, OneZeroPadToByte, OneReadBool, OneReadU32, OneReadU64, OneReadEnum, OneReadF16AsF32, OneNumReadBits}
 use Rattle.jxl_bitstream.specs.Told.{toldU32, toldU64, toldBool, toldMoved, toldF16}
-use Rattle.jxl_bitstream.specs.UnpackSigned.{unpacked}
 use Rattle.jxl_bitstream.specs.declared.bitstream.Moved.the-variants as M
 use Rattle.jxl_bitstream.specs.declared.bitstream.Moved.{Moved}
 use Rattle.jxl_bitstream.specs.declared.bitstream.ReadBool.the-variants as B
@@ -122,6 +121,3 @@ one-read-f16-as-f32 s at = unique toldF16 (back H.Value refusedF16) backF16 (f16
 
 pub one-num-read-bits : OneNumReadBits
 one-num-read-bits position = one-named position
-
-pub one-unpack-signed : OneUnpackSigned
-one-unpack-signed x = one-named (unpacked x)

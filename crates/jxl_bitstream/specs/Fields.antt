@@ -7,7 +7,7 @@ use lib.Ieee.{Float, binary32, ofBits}
 use lib.ListN.{length, getD}
 use Rattle.jxl_bitstream.specs.Answer.{Answer, Field, gives, refuses, _>>=_, done, refuse}
 use Rattle.jxl_bitstream.specs.Bits.{bits, end, start}
-use Rattle.jxl_bitstream.specs.Half.{exponent, pattern, Exactly}
+use Rattle.jxl_half.specs.Half.{exponent, pattern, Exactly}
 use Rattle.jxl_bitstream.specs.Refusals.{eof, padding, float, enum, width, long}
 use Rattle.jxl_bitstream.specs.declared.bitstream.U32Specifier.the-variants.{Constant, BitsOffset}
 use Rattle.jxl_bitstream.specs.declared.bitstream.U32Specifier.{U32Specifier}

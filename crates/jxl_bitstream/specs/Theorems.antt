@@ -2,19 +2,12 @@
 use mathlib.Core.Path.{_≡_}
 use mathlib.Core.List.{List}
 use Prim.Native.Nat.{ℕ, suc, _+_, _-_, _*_, _/_, _^_, _≤_, _<_}
-use lib.Bits.{bitAnd, bitXor}
-use lib.Ieee.{binary32, ofBits}
-use lib.IntN.{ℤ, pos, _-ℤ_}
 use lib.ListN.{length}
-use mir.Syntax.{Width}
-use mir.Val as Machine
 use Rattle.jxl_bitstream.specs.Answer.{Answer, Field, gives, _>>=_, done}
 use Rattle.jxl_bitstream.specs.Bits.{Bytes, bits, bit, end, start}
 use Rattle.jxl_bitstream.specs.Fields.{read, peek, consume, skip, pad, bool, u32, u64, enumOf, f16, ExactlyGiven}
-use Rattle.jxl_bitstream.specs.Half.{exponent, pattern, Exactly}
 use Rattle.jxl_base.specs.OneAnswer.{OneAnswer}
 use Rattle.jxl_bitstream.specs.Told.{toldU32, toldU64, toldBool, toldMoved, toldF16}
-use Rattle.jxl_bitstream.specs.UnpackSigned.{unpacked}
 use Rattle.jxl_bitstream.specs.declared.bitstream.U32Specifier.{U32Specifier}
 
 -- ---- the order of the bits
@@ -56,21 +49,9 @@ abbrev pub AtMost73 : Type 0
 AtMost73 = (s : List ℕ) (at v p : ℕ) → u64 s at ≡ gives v p → p ≤ start s at + 73
 
 -- ---- F16
--- The bits of every code but those with exponent 31 are exactly the code's number.
-abbrev pub Exact : Type 0
-Exact = (v : ℕ) → v < 2 ^ 16 → exponent v < 31 → Exactly v (ofBits binary32 (pattern v))
-
--- and so what F16 gives is exactly the number of the bits read
+-- What F16 gives is exactly the number of the bits read.
 abbrev pub F16Exact : Type 0
 F16Exact = (s : List ℕ) (at : ℕ) → ExactlyGiven s at (f16 s at)
-
--- ---- UnpackSigned, once over the width
--- what the code computes: x / 2, with every bit flipped where x is odd
-abbrev pub flipped : Width → ℕ → ℤ
-flipped w x = Machine.toZ w (bitXor (x / 2) (Machine.ofZ w (pos 0 -ℤ Machine.toZ w (bitAnd x 1))))
-
-abbrev pub Unpacks : Type 0
-Unpacks = (w : Width) (x : ℕ) → x < 2 ^ Machine.bits w → flipped w x ≡ unpacked x
 
 -- ---- one answer
 -- of a field: whatever the bytes and the position
@@ -110,7 +91,3 @@ OneReadF16AsF32 = OneOf toldF16 f16
 
 abbrev pub OneNumReadBits : Type 0
 OneNumReadBits = (position : ℕ) → OneAnswer (λ (r : ℕ). r ≡ position)
-
--- at both widths
-abbrev pub OneUnpackSigned : Type 0
-OneUnpackSigned = (x : ℕ) → OneAnswer (λ (r : ℤ). r ≡ unpacked x)

@@ -1,11 +1,10 @@
 // The fields, read from a lent slice at a bit position that goes in and comes back by value. The rules are in `specs/Fields.antt`.
+use jxl_half::Widened;
 ghost use mathlib.Core.Path.{_≡_};
 ghost use mathlib.Core.Bool.{false};
 ghost use Prim.Native.Nat.{_+_, _*_, _%_, _^_, _<_};
-ghost use lib.Ieee.{binary32, ofBits};
 ghost use lib.ListN.{getD, drop};
 ghost use Rattle.jxl_bitstream.specs.Bits.{number, bits};
-ghost use Rattle.jxl_bitstream.specs.Half.{exponent, magnitude, pattern};
 ghost use Rattle.jxl_bitstream.specs.Fields as F;
 ghost use Rattle.jxl_bitstream.specs.Inside.{Ready, widthOf, offsetOf, anyOver, selectOf};
 ghost use Rattle.jxl_bitstream.specs.Told.{toldU32, toldU64, toldBool, toldF16, toldMoved};
@@ -435,32 +434,6 @@ pub fn read_enum(s: &[u8], at: usize, list: &[u32]) -> ReadU32
     }
 }
 
-// An F16 whose exponent is 0: zero, or `m` units of 2^-24.
-fn subnormal(sign: u32, m: u32) -> f32
-    requires { ⌜ (sign < 2) × (m < 1024) ⌝ }
-    ensures { λ r. ⌜ r ≡ ofBits binary32 (sign * 2 ^ 31 + magnitude 0 m) ⌝ }
-{
-    if m == 0 {
-        return f32::from_bits(sign * 0x8000_0000);
-    }
-    let val = (1.0 / 16384.0) * (m as f32 / 1024.0);
-    if sign == 0 { val } else { -val }
-}
-
-// The f32 that is the same number as an F16 with an exponent under 31.
-fn widened(v: u32) -> f32
-    requires { ⌜ (v < 2 ^ 16) × (exponent v < 31) ⌝ }
-    ensures { λ r. ⌜ r ≡ ofBits binary32 (pattern v) ⌝ }
-{
-    let sign = v / 32768;
-    let exponent = v / 1024 % 32;
-    let mantissa = v % 1024;
-    if exponent == 0 {
-        return subnormal(sign, mantissa);
-    }
-    f32::from_bits(sign * 0x8000_0000 + (exponent + 112) * 0x80_0000 + mantissa * 0x2000)
-}
-
 // `F16`, as an f32.
 pub fn read_f16_as_f32(s: &[u8], at: usize) -> ReadF16
     ensures { λ r. ⌜ toldF16 r ≡ F.f16 (now (s .entry)) at ⌝ }
@@ -472,8 +445,8 @@ pub fn read_f16_as_f32(s: &[u8], at: usize) -> ReadF16
     let ReadU32::Value(v, next) = part(s, p, 16) else {
         return ReadF16::UnexpectedEof(p);
     };
-    if v / 1024 % 32 == 31 {
-        return ReadF16::InvalidFloat(next);
+    match jxl_half::widen(v as u16) {
+        Widened::InvalidFloat => ReadF16::InvalidFloat(next),
+        Widened::Value(x) => ReadF16::Value(x, next),
     }
-    ReadF16::Value(widened(v), next)
 }

@@ -14,7 +14,7 @@ use Rattle.jxl_files.specs.Grammar.{Listing, Stop, want, refused, file, boxes}
 use Rattle.jxl_bitstream.specs.Answer.{gives}
 use Rattle.jxl_bitstream.specs.Bits.{number, bits}
 use Rattle.jxl_bitstream.specs.Fields.{begin, part, select, anyWide, chunks, half, u32, u64, f16}
-use Rattle.jxl_bitstream.specs.Half.{units, magnitude, pattern}
+use Rattle.jxl_half.specs.Half.{units, magnitude, pattern}
 use Rattle.jxl_bitstream.specs.declared.bitstream.U32Specifier.{U32Specifier}
 use Rattle.jxl_bitstream.specs.declared.bitstream.U32Specifier.the-variants.{Constant, BitsOffset}
 

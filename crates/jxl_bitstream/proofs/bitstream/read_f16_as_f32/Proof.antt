@@ -2,13 +2,12 @@
 -- Assumes nothing.
 use mathlib.Core.Bool.{false}
 use mathlib.Core.Path.{_∙_, ap, sym}
-use native.Mathlib.Omega.{arith}
 use borrow.Author.Needs.{needs}
-use borrow.Author.Tests.{eq-eqb, ne-eqb}
 use lib.Dec.{lit≤}
-use Rattle.jxl_bitstream.specs.Fields.{f16, half}
+use Rattle.jxl_bitstream.specs.Fields.{f16}
 use Rattle.jxl_bitstream.specs.Told.{toldU32, toldMoved}
-use Rattle.jxl_bitstream.proofs.Halves.{given-exactly}
+use Rattle.jxl_half.specs.Widen.{told}
+use Rattle.jxl_bitstream.proofs.Halves.{given-exactly, half-refused, half-given}
 use Rattle.jxl_bitstream.proofs.Parts.{ready, long-only, given, short}
 use Rattle.jxl_bitstream.proofs.bitstream.read_f16_as_f32.Statement.{statement}
 use Rattle.jxl_bitstream.proofs.bitstream.read_f16_as_f32.Tie as tie
@@ -48,26 +47,35 @@ returns-2 c =
     given-exactly (a .s .now) (a .at) _
     (rw (← (ap toldMoved (sym (c .before .before .before .before .p .given .1)) ∙ c .before .before .before .before .before .before .begin .ensures), short 16 (a .s .now) p _ _ _ (ap toldU32 (sym (c .enum-told2 .given .1)) ∙ c .before .before .part .ensures)))
 
-returns-3 : tie.Need-returns-3
-unfolding f16 half
-returns-3 c =
-    let a = c .before .before .before .before .before .before .before .before .before .before .args in
-    given-exactly (a .s .now) (a .at) _
-    (rw (← (ap toldMoved (sym (c .before .before .before .before .before .before .p .given .1)) ∙ c .before .before .before .before .before .before .before .before .begin .ensures), ← (ap toldU32 (sym (c .before .before .v .given .1)) ∙ c .before .before .before .before .part .ensures), eq-eqb _ 31 (c .if1 .taken)))
+cast-widen : tie.Need-cast-widen
+cast-widen c =
+    let a = c .before .before .before .before .before .before .before .before .before .args in
+    let p = c .before .before .before .before .before .p .given .0 .0 in
+    let g = given 16 (a .s .now) p _ _ (ap toldU32 (sym (c .before .v .given .1)) ∙ c .before .before .before .part .ensures) in
+    record { fits = g .below }
 
-widened-requires : tie.Need-widened-requires
-widened-requires c κs =
-    let a = c .before .before .before .before .before .before .before .before .before .before .args in
-    let p = c .before .before .before .before .before .before .p .given .0 .0 in
-    let g = given 16 (a .s .now) p _ _ (ap toldU32 (sym (c .before .before .v .given .1)) ∙ c .before .before .before .before .part .ensures) in
-    (g .below, omega arith)
+widen-requires : tie.Need-widen-requires
+widen-requires c κs = search needs
+
+enum-told-3 : tie.Need-enum-told-3
+enum-told-3 c = search needs
+
+enum-known-x : tie.Need-enum-known-x
+enum-known-x c = search needs
+
+returns-3 : tie.Need-returns-3
+unfolding f16
+returns-3 c =
+    let a = c .before .before .before .before .before .before .before .before .before .before .before .before .args in
+    given-exactly (a .s .now) (a .at) _
+    (rw (← (ap toldMoved (sym (c .before .before .before .before .before .before .before .before .p .given .1)) ∙ c .before .before .before .before .before .before .before .before .before .before .begin .ensures), ← (ap toldU32 (sym (c .before .before .before .before .v .given .1)) ∙ c .before .before .before .before .before .before .part .ensures)) (half-refused _ (a .s .now) _ (ap told (sym (c .enum-told3 .given .1)) ∙ c .before .before .widen .ensures .0)))
 
 returns-4 : tie.Need-returns-4
-unfolding f16 half
+unfolding f16
 returns-4 c =
-    let a = c .before .before .before .before .before .before .before .before .before .before .before .args in
+    let a = c .before .before .before .before .before .before .before .before .before .before .before .before .before .args in
     given-exactly (a .s .now) (a .at) _
-    (rw (← (ap toldMoved (sym (c .before .before .before .before .before .before .before .p .given .1)) ∙ c .before .before .before .before .before .before .before .before .before .begin .ensures), ← (ap toldU32 (sym (c .before .before .before .v .given .1)) ∙ c .before .before .before .before .before .part .ensures), ne-eqb _ 31 (c .before .if1 .left), c .widened .ensures))
+    (rw (← (ap toldMoved (sym (c .before .before .before .before .before .before .before .before .before .p .given .1)) ∙ c .before .before .before .before .before .before .before .before .before .before .before .begin .ensures), ← (ap toldU32 (sym (c .before .before .before .before .before .v .given .1)) ∙ c .before .before .before .before .before .before .before .part .ensures)) (half-given _ _ (a .s .now) _ (ap told (sym (c .before .x .given .1)) ∙ c .before .before .before .widen .ensures .0)))
 
 pub read-f16-as-f32-spec : {M : Type 1} → statement M
 read-f16-as-f32-spec =
@@ -81,6 +89,9 @@ read-f16-as-f32-spec =
     enum-known-v
     enum-told-2
     returns-2
+    cast-widen
+    widen-requires
+    enum-told-3
+    enum-known-x
     returns-3
-    widened-requires
     returns-4)

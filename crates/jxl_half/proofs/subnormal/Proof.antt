@@ -8,10 +8,10 @@ use native.Mathlib.Omega.{arith}
 use borrow.Author.Needs.{needs}
 use lib.Dec.{le→leb}
 use lib.Ieee.{inFloat}
-use Rattle.jxl_bitstream.specs.Half.{magnitude}
-use Rattle.jxl_bitstream.proofs.Halves.{computed-bits, no-nan}
-use Rattle.jxl_bitstream.proofs.bitstream.subnormal.Statement.{statement}
-use Rattle.jxl_bitstream.proofs.bitstream.subnormal.Tie as tie
+use Rattle.jxl_half.specs.Half.{magnitude}
+use Rattle.jxl_half.proofs.Halves.{computed-bits, no-nan}
+use Rattle.jxl_half.proofs.subnormal.Statement.{statement}
+use Rattle.jxl_half.proofs.subnormal.Tie as tie
 
 mul-result : tie.Need-mul-result
 mul-result c = search needs

@@ -1,6 +1,6 @@
-use Rattle.jxl_bitstream.proofs.Unpack.{bit-fits, negated-fits, unpacks}
-use Rattle.jxl_bitstream.proofs.unpack_signed_u64.Statement.{statement}
-use Rattle.jxl_bitstream.proofs.unpack_signed_u64.Tie as tie
+use Rattle.jxl_unpack.proofs.Unpack.{bit-fits, negated-fits, unpacks}
+use Rattle.jxl_unpack.proofs.unpack_signed_u64.Statement.{statement}
+use Rattle.jxl_unpack.proofs.unpack_signed_u64.Tie as tie
 use mir.Syntax.{w64}
 use borrow.Author.Needs.{needs}
 

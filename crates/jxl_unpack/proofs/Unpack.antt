@@ -12,8 +12,8 @@ use borrow.Author.Tests.{eqb-true, eqb-false}
 use mir.Syntax.{Width, w8, w16, w32, w64, w128}
 use mir.Val.{SFits, toZ, bits, hbits}
 use mir.ValLaws.{toZ-pos, toZ-neg, pow-bits}
-use Rattle.jxl_bitstream.specs.Theorems.{flipped, Unpacks}
-use Rattle.jxl_bitstream.specs.UnpackSigned.{unpacked}
+use Rattle.jxl_unpack.specs.Theorems.{flipped, Unpacks}
+use Rattle.jxl_unpack.specs.UnpackSigned.{unpacked}
 
 two-fits : (w : Width) → 2 ≤ 2 ^ hbits w
 two-fits w8 = lit≤ tt

@@ -1,6 +1,6 @@
-use Rattle.jxl_bitstream.proofs.Unpack.{bit-fits, negated-fits, unpacks}
-use Rattle.jxl_bitstream.proofs.unpack_signed.Statement.{statement}
-use Rattle.jxl_bitstream.proofs.unpack_signed.Tie as tie
+use Rattle.jxl_unpack.proofs.Unpack.{bit-fits, negated-fits, unpacks}
+use Rattle.jxl_unpack.proofs.unpack_signed.Statement.{statement}
+use Rattle.jxl_unpack.proofs.unpack_signed.Tie as tie
 use mir.Syntax.{w32}
 use borrow.Author.Needs.{needs}
 
