@@ -1,23 +1,21 @@
-// JPEG XL fields.
-mod bitstream;
-
-pub use bitstream::Moved;
-pub use bitstream::ReadBool;
-pub use bitstream::ReadF16;
-pub use bitstream::ReadU32;
-pub use bitstream::ReadU64;
-pub use bitstream::Refusal;
-pub use bitstream::U32Specifier;
-pub use bitstream::consume_bits;
-pub use bitstream::num_read_bits;
-pub use bitstream::peek_bits;
-pub use bitstream::read_bits;
-pub use bitstream::read_bool;
-pub use bitstream::read_enum;
-pub use bitstream::read_f16_as_f32;
-pub use bitstream::read_u32;
-pub use bitstream::read_u64;
-pub use bitstream::skip_bits;
-pub use bitstream::zero_pad_to_byte;
+// JPEG XL fields: the names of the Rust's crate, from one place. There is no code here.
+pub use jxl_bits::Moved;
+pub use jxl_bits::ReadBool;
+pub use jxl_bits::ReadU32;
+pub use jxl_bits::Refusal;
+pub use jxl_bits::consume_bits;
+pub use jxl_bits::num_read_bits;
+pub use jxl_bits::peek_bits;
+pub use jxl_bits::read_bits;
+pub use jxl_bits::read_bool;
+pub use jxl_bits::skip_bits;
+pub use jxl_bits::zero_pad_to_byte;
+pub use jxl_fields::ReadF16;
+pub use jxl_fields::ReadU64;
+pub use jxl_fields::U32Specifier;
+pub use jxl_fields::read_enum;
+pub use jxl_fields::read_f16_as_f32;
+pub use jxl_fields::read_u32;
+pub use jxl_fields::read_u64;
 pub use jxl_unpack::unpack_signed;
 pub use jxl_unpack::unpack_signed_u64;

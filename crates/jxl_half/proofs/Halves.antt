@@ -2,7 +2,6 @@
 -- And the bits of each code are exactly the paper's number of units of 2^-24 with its sign: the same test, and a law where the exponent is not 0.
 -- Assumes nothing.
 use mathlib.Core.Bool.{Bool, true, false, not, _&&_, Bool·beq, cond}
-use mathlib.Core.List.{List, []}
 use mathlib.Core.Path.{_≡_, refl, sym, ap, subst, _∙_}
 use Prim.Native.Nat.{ℕ, zero, suc, _+_, _*_, _/_, _%_, _^_, _<_}
 use native.Mathlib.Nat.{not-suc-le-zero, mul-assoc, mul-comm, mul-left-comm, mul-right-comm, eq-of-mul-eq-mul-right}
@@ -17,7 +16,7 @@ use lib.Ieee.Fits.{and-l, and-r, mul-fits, neg-fits}
 use lib.Ieee.{Float, nan, inf, fin, up, down, binary32, mul, div, neg, ofInt, ofBits, odd, ofFields, toBits, fits, nanBits, isNan}
 use lib.IntN.{pos}
 use lib.Pow.{pow-add}
-use Rattle.jxl_half.specs.Half.{sign, exponent, mantissa, units, magnitude, pattern, Exactly}
+use Rattle.jxl_half.specs.Half.{sign, exponent, mantissa, units, magnitude, pattern}
 use Rattle.jxl_half.specs.Theorems.{Exact}
 use Rattle.jxl_half.specs.Widen.{Wide, gives, refuses, widened, ExactlyWidened}
 

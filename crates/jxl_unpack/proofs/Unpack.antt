@@ -6,7 +6,6 @@ use native.Mathlib.Omega.{arith}
 use native.Mathlib.Nat.{mod-eq-of-lt}
 use lib.Dec.{eqb, lit≤}
 use lib.IntN.{pos, negℤ, _-ℤ_}
-use lib.Signed.{mag}
 use lib.Bits.{bitAnd, bitXor, and-mask, xor-zero-r, xor-add-and}
 use borrow.Author.Tests.{eqb-true, eqb-false}
 use mir.Syntax.{Width, w8, w16, w32, w64, w128}

@@ -1,6 +1,6 @@
 -- `widen` meets its contract: by the exponent.
 -- Assumes nothing.
-use mathlib.Core.Path.{_≡_, _∙_, ap, sym}
+use mathlib.Core.Path.{_∙_, ap, sym}
 use Prim.Native.Nat.{ℕ, _+_, _*_, _^_}
 use native.Mathlib.Omega.{arith}
 use borrow.Author.Needs.{needs}

@@ -1,9 +1,0 @@
-pub mod Numbers
-pub mod Order
-pub mod Parts
-pub mod Readers
-pub mod Choices
-pub mod Chunks
-pub mod Lists
-pub mod Halves
-pub mod Unique
