@@ -1,6 +1,6 @@
 -- `f16_bits` is safe: an F16 that is given is a number.
 -- Assumes nothing.
-use Rattle.jxl_bitstream.proofs.Halves.{has-number}
+use Rattle.jxl_half.proofs.Halves.{has-number}
 use borrow.Author.Needs.{needs}
 use Rattle.field_lines.proofs.f16_bits.Statement.{statement}
 use Rattle.field_lines.proofs.f16_bits.Tie as tie

@@ -1,0 +1,5 @@
+pub mod Choices
+pub mod ChunkLaws
+pub mod Lists
+pub mod Halves
+pub mod Unique

@@ -1,0 +1,4 @@
+pub mod Told
+pub mod Fields
+pub mod Inside
+pub mod Theorems

@@ -1,0 +1,2 @@
+pub mod Unpack
+pub mod Unique

@@ -1,0 +1,2 @@
+pub mod UnpackSigned
+pub mod Theorems
