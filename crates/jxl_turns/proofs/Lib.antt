@@ -2,6 +2,7 @@ pub mod Text
 pub mod Paste
 pub mod Turning
 pub mod Goes
+pub mod Inside
 pub mod Feeds
 pub mod Full
 pub mod Rows

@@ -13,10 +13,13 @@ use Rattle.jxl_files.specs.Joiner.{adding, handed}
 use Rattle.jxl_files.specs.declared.Held.{Held}
 use Rattle.jxl_listing.specs.Putting.{pasted}
 use Rattle.jxl_listing.specs.declared.Stop.{Stop}
+use Rattle.jxl_listing.specs.declared.Stop.the-variants as S
 use Rattle.jxl_turns.specs.Listed.{texts, nextOf}
 use Rattle.jxl_turns.specs.declared.End.{End}
 use Rattle.jxl_turns.specs.declared.End.the-variants as End
 use Rattle.jxl_turns.specs.declared.AfterTurn.{AfterTurn}
+use Rattle.jxl_turns.specs.declared.Way.{Way}
+use Rattle.jxl_turns.specs.declared.Way.the-variants as W
 use Rattle.jxl_turns.specs.declared.Following.{Following}
 use Rattle.jxl_turns.specs.declared.Following.the-variants as N
 
@@ -56,6 +59,11 @@ turnFrom base s room p h k = turning (suc (length (Feeding.take p k (drop k s) .
 unfoldable pub turnOf : ℕ → List ℕ → ℕ → ContainerParser → Held → Turned
 turnOf base s room p h =
     elim (ltb (base + length s) (2 ^ 64)) [ true ↦ turnFrom base s room p h 0 | false ↦ over End.TooFar p h 0 ]
+
+-- what the short way through a turn claims: an input of n bytes inside the part held makes it longer, puts no line, and more is wanted
+abbrev pub Leads : Way → ContainerParser → Held → ℕ → ℕ → Type 0
+Leads (W.Short q j) p h base n = (s : List ℕ) (room : ℕ) → length s ≡ n → turnFrom base s room p h 0 ≡ over (End.Stopped S.Want) q (j .held) n
+Leads W.Long p h base n = Unit {0}
 
 -- what an answer of the code says, with the buffer then and before
 pub record Told (r : AfterTurn) (out buffer : List ℕ) (t : Turned) : Type 0 where

@@ -1,5 +1,7 @@
 // The listing of a whole file in memory, and the work of one turn of a program that lists a stream.
 use jxl_container::ContainerParser;
+use jxl_container::DetectState;
+use jxl_container::JxlpIndexState;
 use jxl_container::parse::Event;
 use jxl_container::parse::Step;
 use jxl_files::Held;
@@ -9,13 +11,18 @@ use jxl_listing::Put;
 use jxl_listing::Stop;
 ghost use mathlib.Core.Path.{_≡_};
 ghost use Prim.Native.Nat.{_+_, _-_, _^_, _≤_, _<_, min};
+ghost use lib.Dec.{eqb, ltb};
 ghost use lib.ListN.{length, drop};
+ghost use Rattle.jxl_headers.specs.Bytes.{and};
+ghost use Rattle.jxl_container.specs.Record.{overIndex};
 ghost use Rattle.jxl_container.specs.Step.{shifted};
 ghost use Rattle.jxl_listing.specs.Lines.{text};
 ghost use Rattle.jxl_listing.specs.Putting.{leaves, pasted, putOf};
 ghost use Rattle.jxl_turns.specs.Listed.{fileText, listOf, nextOf, placeOf, texts};
-ghost use Rattle.jxl_turns.specs.Turned.{Told, turnFrom, turnOf};
+ghost use Rattle.jxl_turns.specs.Turned.{Told, Leads, turnFrom, turnOf};
 ghost use Rattle.jxl_files.specs.Joiner.{handed};
+ghost use Rattle.jxl_files.specs.declared.Held.the-variants.{Waiting};
+ghost use Rattle.jxl_container.specs.declared.parse.Event.the-variants.{Codestream};
 
 // What comes next: an event with its place in the file, or the stop; and the record and the place then.
 pub enum Following {
@@ -285,6 +292,99 @@ fn anew(joiner: Joiner) -> Joiner
     }
 }
 
+// What is left of a turn: nothing, since its input only makes the part held longer; or the whole of it.
+enum Way {
+    Short {
+        parser: ContainerParser,
+        joiner: Joiner,
+    },
+    Long,
+}
+
+// Whether the current `jxlp` index is above 2^31 - 1: no file leads there, and the parser refuses.
+fn over_index(jxlp: JxlpIndexState) -> bool
+    ensures { λ r. ⌜ r ≡ overIndex jxlp ⌝ }
+{
+    match jxlp {
+        JxlpIndexState::Jxlp(i) => 0x8000_0000 <= i,
+        JxlpIndexState::Initial => false,
+        JxlpIndexState::SingleJxlc => false,
+        JxlpIndexState::JxlpFinished => false,
+    }
+}
+
+// Whether `len` bytes at `at` end at `base`, and `n` bytes more fit.
+fn reaches(at: usize, len: usize, base: usize, n: usize) -> bool
+    ensures { λ r. ⌜ r ≡ and (eqb (at + len) base) (ltb (len + n) (2 ^ 64)) ⌝ }
+{
+    if base < at {
+        return false;
+    }
+    if base - at == len {
+        n <= 0xffff_ffff_ffff_ffff - len
+    } else {
+        false
+    }
+}
+
+// The way of a turn on `n` bytes behind the codestream part of `len` bytes at `at`.
+fn way_behind(parser: ContainerParser, at: usize, len: usize, n: usize) -> Way
+    requires { ⌜ len + n < 2 ^ 64 ⌝ }
+    ensures { λ r. ⌜ Leads r parser (Waiting (Codestream at len)) (at + len) n ⌝ }
+{
+    let state = parser.state;
+    let jxlp = parser.jxlp;
+    match state {
+        DetectState::InCodestream {
+            kind,
+            left,
+            pending_no_more_aux_box,
+        } => {
+            if pending_no_more_aux_box {
+                return Way::Long;
+            }
+            let then = left.less(n as u64);
+            if over_index(jxlp) || then.under(1) {
+                return Way::Long;
+            }
+            Way::Short {
+                parser: ContainerParser {
+                    state: DetectState::InCodestream {
+                        kind,
+                        left: then,
+                        pending_no_more_aux_box: false,
+                    },
+                    jxlp,
+                },
+                joiner: Joiner {
+                    held: Held::Waiting(Event::Codestream { at, len: len + n }),
+                },
+            }
+        }
+        _ => Way::Long,
+    }
+}
+
+// The way of a turn on `n` bytes at `base`. Most turns on a large picture lie inside one payload.
+fn way_from(parser: ContainerParser, joiner: Joiner, base: usize, n: usize) -> Way
+    ensures { λ r. ⌜ Leads r parser (joiner .held) base n ⌝ }
+{
+    let held = joiner.held;
+    match held {
+        Held::Nothing => Way::Long,
+        Held::Waiting(event) => match event {
+            Event::Codestream { at, len } => {
+                if reaches(at, len, base, n) {
+                    way_behind(parser, at, len, n)
+                } else {
+                    Way::Long
+                }
+            }
+            _ => Way::Long,
+        },
+    }
+}
+
 // One turn: the lines of the input's events, joined across turns, at the front of `out`. The input is the bytes left unread
 // and what was read behind them; it stands at `base` in the file.
 pub fn turn(
@@ -296,10 +396,18 @@ pub fn turn(
 ) -> AfterTurn
     ensures { λ r. ⌜ Told r (now (out .exit)) (now (out .entry)) (turnOf base (now (input .entry)) (length (now (out .entry))) parser (joiner .held)) ⌝ }
 {
-    let j = anew(joiner);
     if base <= 0xffff_ffff_ffff_ffff - input.len() {
-        turn_from(after(parser, j, 0, 0, End::Full), base, input, out)
+        match way_from(parser, joiner, base, input.len()) {
+            Way::Short {
+                parser: next,
+                joiner: longer,
+            } => after(next, longer, input.len(), 0, End::Stopped(Stop::Want)),
+            Way::Long => {
+                let start = after(parser, anew(joiner), 0, 0, End::Full);
+                turn_from(start, base, input, out)
+            }
+        }
     } else {
-        after(parser, j, 0, 0, End::TooFar)
+        after(parser, anew(joiner), 0, 0, End::TooFar)
     }
 }
