@@ -85,6 +85,12 @@ fn byte_behind(s: &[u8], at: usize, k: usize) -> u32
 pub fn be32_at(s: &[u8], at: usize) -> u32
     ensures { λ r. ⌜ r ≡ be32 (now (s .entry)) at ⌝ }
 {
+    let n = s.len();
+    if 4 <= n {
+        if at <= n - 4 {
+            return be32_there(s, at);
+        }
+    }
     let a = byte_behind(s, at, 0);
     let b = byte_behind(s, at, 1);
     let c = byte_behind(s, at, 2);
