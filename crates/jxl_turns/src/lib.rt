@@ -343,8 +343,11 @@ fn way_behind(parser: ContainerParser, at: usize, len: usize, n: usize) -> Way
             if pending_no_more_aux_box {
                 return Way::Long;
             }
+            if over_index(jxlp) {
+                return Way::Long;
+            }
             let then = left.less(n as u64);
-            if over_index(jxlp) || then.under(1) {
+            if then.under(1) {
                 return Way::Long;
             }
             Way::Short {

@@ -10,30 +10,33 @@ enum-known-state c = search needs
 returns : tie.Need-returns
 returns c = search needs
 
-less-requires : tie.Need-less-requires
-less-requires c κs = search needs
-
 over-index-requires : tie.Need-over-index-requires
 over-index-requires c κs = search needs
-
-under-requires : tie.Need-under-requires
-under-requires c κs = search needs
 
 returns-2 : tie.Need-returns-2
 returns-2 c = search needs
 
+less-requires : tie.Need-less-requires
+less-requires c κs = search needs
+
+under-requires : tie.Need-under-requires
+under-requires c κs = search needs
+
+returns-3 : tie.Need-returns-3
+returns-3 c = search needs
+
 add-t18 : tie.Need-add-t18
 add-t18 c = search needs
 
-returns-3 : tie.Need-returns-3
-returns-3 c =
+returns-4 : tie.Need-returns-4
+returns-4 c =
     let start = c .before .before .before .before .before .before .before .before .before in
     let a = start .args in
-    leads-on (a .parser) (a .at) (a .len) (a .n) (c .before .before .before .before .before .before .before .state .given .1) (c .before .before .before .before .before .if1 .left)
-    (sym (c .before .before .before .over-index .ensures) ∙ c .before .before .if2 .left) (c .before .before .before .before .less .ensures) (sym (c .before .under .ensures) ∙ c .if3 .left) (start .pre)
+    leads-on (a .parser) (a .at) (a .len) (a .n) (c .before .before .before .before .before .before .before .state .given .1) (c .before .before .before .before .before .if1 .left) (sym (c .before .before .before .before .over-index .ensures) ∙ c .before .before .before .if2 .left) (c .before .before .less .ensures)
+    (sym (c .before .under .ensures) ∙ c .if3 .left) (start .pre)
 
-returns-4 : tie.Need-returns-4
-returns-4 c = search needs
+returns-5 : tie.Need-returns-5
+returns-5 c = search needs
 
 pub way-behind-spec : {M : Type 1} → statement M
 way-behind-spec =
@@ -41,10 +44,11 @@ way-behind-spec =
     (tie.spec
     enum-known-state
     returns
-    less-requires
     over-index-requires
-    under-requires
     returns-2
-    add-t18
+    less-requires
+    under-requires
     returns-3
-    returns-4)
+    add-t18
+    returns-4
+    returns-5)
