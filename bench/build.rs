@@ -1,4 +1,4 @@
-//! Compiles the judged Rust, unchanged and in place, and links the archives of the drivers. The script `run` sets both folders.
+//! Compiles the Rust's sources, unchanged and in place, and links the archives of the drivers. The script `run` sets both folders.
 
 use std::env;
 use std::path::{Path, PathBuf};

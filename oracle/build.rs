@@ -1,14 +1,12 @@
-//! Compiles the judged sources, unchanged and in place, so that `extern crate jxl_bitstream` finds them.
+//! Compiles the Rust's sources, unchanged and in place, so that `extern crate jxl_bitstream` finds them.
 
 use std::env;
 use std::path::{Path, PathBuf};
 use std::process::Command;
 
-/// Where the sources are when JXL_BITSTREAM_SRC is not set, seen from this folder.
-const DEFAULT_SRC: &str = "../../shared/docs/src";
-
 fn main() {
-    let src = env::var("JXL_BITSTREAM_SRC").unwrap_or_else(|_| DEFAULT_SRC.to_string());
+    // The folder has to be named: there is no place where the sources would stand by themselves.
+    let src = env::var("JXL_BITSTREAM_SRC").unwrap_or_default();
     let root = Path::new(&src).join("src").join("lib.rs");
     if !root.is_file() {
         eprintln!(

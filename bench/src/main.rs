@@ -1,4 +1,4 @@
-//! Times the proved library beside the judged Rust on the same bytes, both turn about, and prints a table.
+//! Times the proved library beside the Rust on the same bytes, both turn about, and prints a table.
 //! bench [--check | --growth] [RUNS] [WORD]; see docs/SPEED.md.
 
 extern crate jxl_bitstream; // found in the folder that build.rs tells of

@@ -1,4 +1,4 @@
-//! Writes the judged Rust's answers as text on standard output. See README.md.
+//! Writes the Rust's answers as text on standard output. See README.md.
 
 extern crate jxl_bitstream; // found in the folder that build.rs tells of
 

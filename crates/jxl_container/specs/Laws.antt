@@ -1,4 +1,5 @@
--- What is proved of every step beside its promise; proofs/Laws.antt has a proof of each statement under the same name in small letters.
+-- What is proved of every step beside its promise; proofs/Laws.antt, and for one answer proofs/Unique.antt, have a proof of each
+-- statement under the same name in small letters.
 use mathlib.Core.Path.{_≡_}
 use mathlib.Core.List.{List}
 use Prim.Native.Nat.{ℕ, _+_, _≤_}
@@ -29,8 +30,8 @@ Repeats w p = (s : List ℕ) → stepOf p s ≡ refuses w p 0
 abbrev pub Inside : Event → ℕ → Type 0
 Inside e n = PayloadInside (payload e) n
 
--- what a step tells of n bytes: it consumes no more than the input has; a payload shown lies inside the input; on WANT at most 15 bytes are left;
--- a refusal leaves a parser that repeats it
+-- what a step tells of n bytes: it consumes no more than the input has; a payload shown lies inside the input; on WANT at most 15
+-- bytes are left; a refusal leaves a parser that repeats it
 abbrev pub Kept : ℕ → Told → Type 0
 Kept n (shows e p c) = (c ≤ n) × Inside e n
 Kept n (wants p c) = (c ≤ n) × (n ≤ c + 15)

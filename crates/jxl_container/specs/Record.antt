@@ -45,7 +45,8 @@ noIndex SingleJxlc = true
 noIndex (Jxlp i) = ltb 0x80000000 i
 noIndex JxlpFinished = true
 
--- the records that are refused since no file leads to them: an index or an inner type awaited in a payload under 4, too; other records are read as they stand
+-- the records that are refused since no file leads to them, an index or an inner type awaited in a payload under 4 among them; other
+-- records are read as they stand
 abbrev pub impossibleIn : DetectState → JxlpIndexState → Bool
 impossibleIn S.WaitingSignature j = overIndex j
 impossibleIn S.WaitingBoxHeader j = overIndex j

@@ -102,7 +102,8 @@ auxPart j t (Bytes m) n =
 abbrev pub row : ℕ → ℕ → JxlpIndexState
 row word i = if (leb 0x80000000 word) JxlpFinished (Jxlp i)
 
--- a `jxlp` payload: 4 bytes (WANT below that): bit 31 marks last, the other 31 are the index. Another index than i: refusal 1, the 4 bytes consumed
+-- a `jxlp` payload: 4 bytes (WANT below that): bit 31 marks last, the other 31 are the index. Another index than i: refusal 1,
+-- the 4 bytes consumed
 unfoldable pub indexStep : ℕ → Left → List ℕ → Told
 indexStep i l s =
     if (ltb (length s) 4) (wants (at (S.WaitingJxlpIndex l) (Jxlp i)) 0)
@@ -175,7 +176,8 @@ stateStep (S.InAuxBox t l) j s = auxPart j t l (length s)
 stateStep (S.InCodestream k l pending) j s = codeStep j k l pending s
 stateStep (S.Refused k r) j s = refuses (why r) (at (S.Refused k r) j) 0
 
--- an empty input answers WANT before anything else, except in a refused parser; a record that no file leads to is refused 1 with input there and 0 consumed
+-- an empty input answers WANT before anything else, except in a refused parser; a record that no file leads to is refused 1
+-- with input there and 0 consumed
 unfoldable pub stepOf : ContainerParser → List ℕ → Told
 stepOf p s =
     if (and (empty s) (not (isRefused p))) (wants p 0)

@@ -32,7 +32,7 @@ pub enum Event {
     AuxEnd { ty: u32 },
 }
 
-// A step's answer.
+// A step's answer. The next record and the bytes consumed come first in every case, so that the compiler copies no padding.
 pub enum Step {
     Shown {
         next: ContainerParser,

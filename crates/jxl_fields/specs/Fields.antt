@@ -35,7 +35,8 @@ anyWide d = wide (chosen d 0) || wide (chosen d 1) || wide (chosen d 2) || wide 
 unfoldable pub u32 : List U32Specifier → Field ℕ
 u32 d = begin (anyWide d) >>= λ _. select d
 
--- U64, selector 3: while a 1 bit follows, 8 bits placed at each of these places in turn; after them 4 bits at 60, and stop with no further flag.
+-- U64, selector 3: while a 1 bit follows, 8 bits placed at each of these places in turn; after them, behind a seventh 1 bit, 4 bits at 60,
+-- and stop with no further flag.
 abbrev pub places : List ℕ
 places = 12 ∷ 20 ∷ 28 ∷ 36 ∷ 44 ∷ 52 ∷ []
 

@@ -1,4 +1,5 @@
--- What is proved of the fields besides the functions' promises, each statement a type that proofs/ has a proof of under the same name in small letters.
+-- What is proved of the fields besides the functions' promises: each statement is a type, which proofs/ proves
+-- under the same name in small letters.
 use mathlib.Core.Path.{_≡_}
 use mathlib.Core.List.{List}
 use Prim.Native.Nat.{ℕ, _+_, _≤_}

@@ -1,6 +1,6 @@
 -- What a whole file lists: document 01, "Boxes", as a grammar of bytes. It knows nothing of steps, packets or a parser's state;
--- with a step it shares the header, the signature, and the reach of a payload and the numbers of the refusals (Record's `under`,
--- `less`, `toEnd`, `why`).
+-- with a step it shares the signature, the header, the box types, the reach of a payload and the refusals in the paper's words, all of
+-- jxl_headers (`signatureOf`, `headerOf`, `Types`, `Reach`, `why`).
 -- Each definition is one thing in a file that stands at `at`, with the bytes `s` from there to the end; `more` lists what follows it.
 -- A choice is an `elim`, which computes one branch alone; an `if` would compute both, and with them the boxes to the end twice.
 use mathlib.Core.Bool.{Bool, true, false}

@@ -39,6 +39,6 @@ abbrev pub AllCounted : List Event → Type 0
 AllCounted [] = Unit {0}
 AllCounted (e ∷ es) = Counted e × AllCounted es
 
--- n bytes in k packets give at most n / 3 + 2 + k events (`most events`); the number saturates at 64 bits
+-- n bytes in k packets, one at least, give at most n / 3 + 2 + k events (`MostEvents`); the number saturates at 64 bits
 abbrev pub mostEvents : ℕ → ℕ → ℕ
 mostEvents n k = min (n / 3 + 2 + k) (2 ^ 64 - 1)

@@ -1,4 +1,5 @@
--- Every file, every cut: what is proved of feeding, each statement a type that proofs/ has a proof of under the same name in small letters.
+-- Every file, every cut: what is proved of feeding. Each statement is a type, which proofs/ proves under the same name in small letters
+-- (`ParserIsLawful` as `lawful`).
 use mathlib.Core.Path.{_≡_}
 use mathlib.Core.Bool.{false}
 use mathlib.Core.List.{List, [], _∷_}
@@ -35,7 +36,7 @@ listing r = record { events = events r; consumed = r .consumed; stop = r .stop }
 abbrev pub ListsEveryFile : (ContainerParser → List ℕ → Told) → Type 0
 ListsEveryFile step = (s : List ℕ) → listing {step = step} (Any.feeding (parserBy step) fresh 0 (s ∷ [])) ≡ file s
 
--- versions to catch, which no file's listing must come from: a parser that only refuses, one that only says KIND invalid, one that only says WANT, and one that gives its first
+-- versions to catch: a parser that only refuses, one that only says KIND invalid, one that only says WANT, and one that gives its first
 -- event rightly and then says WANT
 abbrev pub onlyRefuses : ContainerParser → List ℕ → Told
 onlyRefuses p s = refuses (refusal 1 []) p 0

@@ -1,5 +1,5 @@
 // What users want of whole files: an event's place in the file, a joiner of payload parts, and how many events a queue must
-// hold. The grammar of a whole file and what feeding in packets gives stand in specs/, and the theorems on them in proofs/.
+// hold. The grammar of a whole file and what feeding in packets gives stand in specs/, and the theorems on them in specs/Theorems.antt.
 use jxl_container::parse::Event;
 ghost use mathlib.Core.Path.{_≡_};
 ghost use Prim.Native.Nat.{_+_, _^_, _<_};

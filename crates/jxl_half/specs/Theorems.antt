@@ -1,4 +1,5 @@
--- What is proved of F16 codes besides the function's promise, each statement a type that proofs/ has a proof of under the same name in small letters.
+-- What is proved of F16 codes besides the function's promise: each statement is a type, which proofs/ proves
+-- under the same name in small letters.
 use mathlib.Core.Path.{_≡_}
 use Prim.Native.Nat.{ℕ, _^_, _<_}
 use lib.Ieee.{binary32, ofBits}

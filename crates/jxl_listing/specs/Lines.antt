@@ -66,7 +66,7 @@ stopWord Want = 119 ∷ 97 ∷ 110 ∷ 116 ∷ []
 stopWord Refused1 = 114 ∷ 101 ∷ 102 ∷ 117 ∷ 115 ∷ 101 ∷ 100 ∷ 49 ∷ []
 stopWord Refused2 = 114 ∷ 101 ∷ 102 ∷ 117 ∷ 115 ∷ 101 ∷ 100 ∷ 50 ∷ []
 
--- what is printed of a refusal, by its number
+-- what is printed of a refusal, by its number: 1 or 2, the only two there are
 abbrev pub printed : Why → Stop
 printed (refusal n told) = if (eqb n 1) Refused1 Refused2
 

@@ -54,7 +54,8 @@ placeOf (E.AuxStart t b e) = 0
 placeOf (E.AuxData t a n) = a
 placeOf (E.AuxEnd t) = 0
 
--- the listing put into a buffer if it fits; else the buffer stays as it was, and the room needed is told, at most the largest number of 64 bits
+-- the listing put into a buffer if it fits; else the buffer stays as it was, and the room needed is told, at most the largest number
+-- of 64 bits
 unfoldable pub listOf : List ℕ → List ℕ → Outcome
 listOf d w =
     if (leb (length w) (length d)) (leaves (Written (length w)) (pasted d 0 w))

@@ -47,6 +47,7 @@ turnBy go room p h base k (N.Shown e q m) =
     ]
 turnBy go room p h base k (N.Stopped w q m) = over (End.Stopped w) q h m
 
+-- at most so many steps; where they run out it ends as if full, which `turnFrom` never comes to (FullMeansFull)
 unfoldable pub turning : ℕ → ℕ → List ℕ → ℕ → ContainerParser → Held → ℕ → Turned
 turning zero base s room p h k = over End.Full p h k
 turning (suc turns) base s room p h k = turnBy (turning turns base s) room p h base k (nextOf p k (drop k s))

@@ -1,4 +1,5 @@
--- What is proved of UnpackSigned besides the functions' promises, each statement a type that proofs/ has a proof of under the same name in small letters.
+-- What is proved of UnpackSigned besides the functions' promises: each statement is a type, which proofs/ proves
+-- under the same name in small letters.
 use mathlib.Core.Path.{_≡_}
 use Prim.Native.Nat.{ℕ, suc, _/_, _^_, _<_}
 use lib.Bits.{bitAnd, bitXor}
@@ -8,11 +9,11 @@ use mir.Val as Machine
 use Rattle.jxl_base.specs.OneAnswer.{OneAnswer}
 use Rattle.jxl_unpack.specs.UnpackSigned.{unpacked}
 
--- Once over the width.
 -- what the code computes: x / 2, with every bit flipped where x is odd
 abbrev pub flipped : Width → ℕ → ℤ
 flipped w x = Machine.toZ w (bitXor (x / 2) (Machine.ofZ w (pos 0 -ℤ Machine.toZ w (bitAnd x 1))))
 
+-- once over the width: that is the paper's number
 abbrev pub Unpacks : Type 0
 Unpacks = (w : Width) (x : ℕ) → x < 2 ^ Machine.bits w → flipped w x ≡ unpacked x
 
