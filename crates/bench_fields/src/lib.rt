@@ -1,11 +1,11 @@
 // Fields read one behind the other, for the bench to call and time. Each driver reads `count` fields of its kind, and answers the
 // sum of their values; it stops where one is refused.
+use jxl_bitstream::FieldRefusal;
 use jxl_bitstream::Moved;
 use jxl_bitstream::ReadBool;
 use jxl_bitstream::ReadF16;
 use jxl_bitstream::ReadU32;
 use jxl_bitstream::ReadU64;
-use jxl_bitstream::Refusal;
 use jxl_bitstream::U32Specifier;
 
 // The numbers of the transfer functions.
@@ -183,16 +183,16 @@ fn size_header(s: &[u8], at: usize) -> ReadU64 {
         U32Specifier::BitsOffset(1, 30),
     ];
     let ReadBool::Value(small, a) = jxl_bitstream::read_bool(s, at) else {
-        return ReadU64::Refused(Refusal::UnexpectedEof, at);
+        return ReadU64::Refused(FieldRefusal::UnexpectedEof, at);
     };
     let ReadU32::Value(height, b) = jxl_bitstream::read_u32(s, a, choices) else {
-        return ReadU64::Refused(Refusal::UnexpectedEof, a);
+        return ReadU64::Refused(FieldRefusal::UnexpectedEof, a);
     };
     let ReadU32::Value(ratio, c) = jxl_bitstream::read_bits(s, b, 3) else {
-        return ReadU64::Refused(Refusal::UnexpectedEof, b);
+        return ReadU64::Refused(FieldRefusal::UnexpectedEof, b);
     };
     let ReadU32::Value(width, d) = jxl_bitstream::read_u32(s, c, choices) else {
-        return ReadU64::Refused(Refusal::UnexpectedEof, c);
+        return ReadU64::Refused(FieldRefusal::UnexpectedEof, c);
     };
     let sides = add(height as u64, width as u64);
     ReadU64::Value(add(sides, add(small as u64, ratio as u64)), d)
@@ -209,19 +209,19 @@ fn metadata(s: &[u8], at: usize) -> ReadU64 {
         U32Specifier::BitsOffset(1, 6),
     ];
     let ReadU32::Value(orientation, a) = jxl_bitstream::read_bits(s, at, 3) else {
-        return ReadU64::Refused(Refusal::UnexpectedEof, at);
+        return ReadU64::Refused(FieldRefusal::UnexpectedEof, at);
     };
     let ReadU32::Value(depth, b) = jxl_bitstream::read_u32(s, a, depths) else {
-        return ReadU64::Refused(Refusal::UnexpectedEof, a);
+        return ReadU64::Refused(FieldRefusal::UnexpectedEof, a);
     };
     let ReadU32::Value(colour, c) = jxl_bitstream::read_enum(s, b, &list) else {
-        return ReadU64::Refused(Refusal::UnexpectedEof, b);
+        return ReadU64::Refused(FieldRefusal::UnexpectedEof, b);
     };
     let ReadF16::Value(nits, d) = jxl_bitstream::read_f16_as_f32(s, c) else {
-        return ReadU64::Refused(Refusal::UnexpectedEof, c);
+        return ReadU64::Refused(FieldRefusal::UnexpectedEof, c);
     };
     let ReadU64::Value(extensions, e) = jxl_bitstream::read_u64(s, d) else {
-        return ReadU64::Refused(Refusal::UnexpectedEof, d);
+        return ReadU64::Refused(FieldRefusal::UnexpectedEof, d);
     };
     let small = add(add(orientation as u64, depth as u64), colour as u64);
     let bright = if 255.0 < nits { 1 } else { 0 };

@@ -1,6 +1,6 @@
 // What the drivers of the bench share: the packets of a file, and the loop over its steps.
 use jxl_container::ContainerParser;
-use jxl_container::parse::Event;
+use jxl_container::parse::ParseEvent;
 use jxl_container::parse::Step;
 
 // The bytes from `at` up to `end`; none if they lie outside.
@@ -27,18 +27,18 @@ pub fn packet_end(end: usize, packet: usize, len: usize) -> usize {
 }
 
 // What an event adds to the sum: 1, and for a payload its length.
-pub fn weight(event: Event) -> u64 {
+pub fn weight(event: ParseEvent) -> u64 {
     match event {
-        Event::Codestream { at: _, len } => std::num::wrapping_add_u64(len as u64, 1),
-        Event::AuxData { ty: _, at: _, len } => std::num::wrapping_add_u64(len as u64, 1),
-        Event::Kind(_) => 1,
-        Event::NoMoreAux => 1,
-        Event::AuxStart {
+        ParseEvent::Codestream { at: _, len } => std::num::wrapping_add_u64(len as u64, 1),
+        ParseEvent::AuxBoxData { ty: _, at: _, len } => std::num::wrapping_add_u64(len as u64, 1),
+        ParseEvent::BitstreamKind(_) => 1,
+        ParseEvent::NoMoreAuxBox => 1,
+        ParseEvent::AuxBoxStart {
             ty: _,
-            brotli: _,
-            to_end: _,
+            brotli_compressed: _,
+            last_box: _,
         } => 1,
-        Event::AuxEnd { ty: _ } => 1,
+        ParseEvent::AuxBoxEnd { ty: _ } => 1,
     }
 }
 

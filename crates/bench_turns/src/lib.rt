@@ -1,13 +1,13 @@
 // All turns on a file, for the bench to call and time.
 use jxl_container::ContainerParser;
 use jxl_files::Joiner;
-use jxl_turns::End;
+use jxl_turns::TurnEnd;
 ghost use Prim.Native.Nat.{_≤_};
 
 // Whether a turn ended because the next line has no room.
-fn is_full(end: End) -> bool {
+fn is_full(end: TurnEnd) -> bool {
     match end {
-        End::Full => true,
+        TurnEnd::Full => true,
         _ => false,
     }
 }

@@ -2,12 +2,12 @@
 ghost use mathlib.Core.Path.{_≡_};
 ghost use Prim.Native.Nat.{_%_, _^_, _≤_, _<_};
 ghost use lib.ListN.{length};
+use jxl_bitstream::FieldRefusal;
 use jxl_bitstream::Moved;
 use jxl_bitstream::ReadBool;
 use jxl_bitstream::ReadF16;
 use jxl_bitstream::ReadU32;
 use jxl_bitstream::ReadU64;
-use jxl_bitstream::Refusal;
 use jxl_bitstream::U32Specifier;
 use replay_text::byte_at;
 use replay_text::digit;
@@ -37,21 +37,21 @@ fn put_place(out: &mut [u8], from: usize, at: usize) -> Put {
     }
 }
 
-fn put_name(out: &mut [u8], r: Refusal) -> usize {
+fn put_name(out: &mut [u8], r: FieldRefusal) -> usize {
     match r {
-        Refusal::UnexpectedEof => put_bytes(out, 0, b"eof"),
-        Refusal::NonZeroPadding => put_bytes(out, 0, b"pad"),
-        Refusal::InvalidFloat => put_bytes(out, 0, b"float"),
-        Refusal::InvalidEnum(v) => {
+        FieldRefusal::UnexpectedEof => put_bytes(out, 0, b"eof"),
+        FieldRefusal::NonZeroPadding => put_bytes(out, 0, b"pad"),
+        FieldRefusal::InvalidFloat => put_bytes(out, 0, b"float"),
+        FieldRefusal::InvalidEnum(v) => {
             let q = put_bytes(out, 0, b"enum ");
             put_decimal(out, q, v as u64)
         }
-        Refusal::Width => put_bytes(out, 0, b"width"),
-        Refusal::TooLong => put_bytes(out, 0, b"long"),
+        FieldRefusal::Width => put_bytes(out, 0, b"width"),
+        FieldRefusal::TooLong => put_bytes(out, 0, b"long"),
     }
 }
 
-fn put_refusal(out: &mut [u8], r: Refusal, at: usize) -> Put {
+fn put_refusal(out: &mut [u8], r: FieldRefusal, at: usize) -> Put {
     let q = put_name(out, r);
     put_place(out, q, at)
 }
@@ -100,9 +100,9 @@ fn put_moved(out: &mut [u8], a: Moved) -> Put {
 fn f16_bits(s: &[u8], at: usize) -> ReadU32 {
     match jxl_bitstream::read_f16_as_f32(s, at) {
         ReadF16::Value(x, p) => ReadU32::Value(f32::to_bits(x), p),
-        ReadF16::UnexpectedEof(p) => ReadU32::Refused(Refusal::UnexpectedEof, p),
-        ReadF16::InvalidFloat(p) => ReadU32::Refused(Refusal::InvalidFloat, p),
-        ReadF16::TooLong(p) => ReadU32::Refused(Refusal::TooLong, p),
+        ReadF16::UnexpectedEof(p) => ReadU32::Refused(FieldRefusal::UnexpectedEof, p),
+        ReadF16::InvalidFloat(p) => ReadU32::Refused(FieldRefusal::InvalidFloat, p),
+        ReadF16::TooLong(p) => ReadU32::Refused(FieldRefusal::TooLong, p),
     }
 }
 

@@ -19,15 +19,15 @@ use Rattle.jxl_bits.specs.declared.ReadBool.the-variants as B
 use Rattle.jxl_bits.specs.declared.ReadBool.{ReadBool}
 use Rattle.jxl_bits.specs.declared.ReadU32.the-variants as U32
 use Rattle.jxl_bits.specs.declared.ReadU32.{ReadU32}
-use Rattle.jxl_bits.specs.declared.Refusal.the-variants.{UnexpectedEof, NonZeroPadding, InvalidFloat, InvalidEnum, Width, TooLong}
-use Rattle.jxl_bits.specs.declared.Refusal.{Refusal}
+use Rattle.jxl_bits.specs.declared.FieldRefusal.the-variants.{UnexpectedEof, NonZeroPadding, InvalidFloat, InvalidEnum, Width, TooLong}
+use Rattle.jxl_bits.specs.declared.FieldRefusal.{FieldRefusal}
 
 -- what is told can be read back, so it is told of one answer only
 pub unique : {A B : Type 0} (told : A → B) (back : B → A) → ((r : A) → back (told r) ≡ r) → (x : B) → OneAnswer (λ r. told r ≡ x)
 unique told back e = one-told told (λ r q same. sym (e r) ∙ ap back same ∙ e q)
 
 -- a refusal, from its number and what it tells
-abbrev pub named : ℕ → List ℕ → Refusal
+abbrev pub named : ℕ → List ℕ → FieldRefusal
 named n t =
     cond (eqb n eof) UnexpectedEof
     (cond (eqb n padding) NonZeroPadding
@@ -35,7 +35,7 @@ named n t =
     (cond (eqb n enum) (InvalidEnum (getD t 0 0))
     (cond (eqb n width) Width TooLong))))
 
-pub renamed : (r : Refusal) → named (numbered r) (tells r) ≡ r
+pub renamed : (r : FieldRefusal) → named (numbered r) (tells r) ≡ r
 renamed UnexpectedEof = refl
 renamed NonZeroPadding = refl
 renamed InvalidFloat = refl
@@ -44,7 +44,7 @@ renamed Width = refl
 renamed TooLong = refl
 
 -- an answer, from what is told of it, where each has a case with a value and one with a refusal
-abbrev pub back : {A R : Type 0} → (A → ℕ → R) → (Refusal → ℕ → R) → Answer A → R
+abbrev pub back : {A R : Type 0} → (A → ℕ → R) → (FieldRefusal → ℕ → R) → Answer A → R
 back value refused (gives a at) = value a at
 back value refused (refuses n t at) = refused (named n t) at
 

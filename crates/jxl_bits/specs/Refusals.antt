@@ -1,8 +1,8 @@
 -- Numbers of the refusals.
 use mathlib.Core.List.{List, [], _∷_}
 use Prim.Native.Nat.{ℕ}
-use Rattle.jxl_bits.specs.declared.Refusal.the-variants.{UnexpectedEof, NonZeroPadding, InvalidFloat, InvalidEnum, Width, TooLong}
-use Rattle.jxl_bits.specs.declared.Refusal.{Refusal}
+use Rattle.jxl_bits.specs.declared.FieldRefusal.the-variants.{UnexpectedEof, NonZeroPadding, InvalidFloat, InvalidEnum, Width, TooLong}
+use Rattle.jxl_bits.specs.declared.FieldRefusal.{FieldRefusal}
 
 abbrev pub eof : ℕ
 eof = 3
@@ -23,7 +23,7 @@ abbrev pub long : ℕ
 long = 8
 
 -- the number of each case
-abbrev pub numbered : Refusal → ℕ
+abbrev pub numbered : FieldRefusal → ℕ
 numbered UnexpectedEof = eof
 numbered NonZeroPadding = padding
 numbered InvalidFloat = float
@@ -32,7 +32,7 @@ numbered Width = width
 numbered TooLong = long
 
 -- what it tells: of 6, the value
-abbrev pub tells : Refusal → List ℕ
+abbrev pub tells : FieldRefusal → List ℕ
 tells UnexpectedEof = []
 tells NonZeroPadding = []
 tells InvalidFloat = []

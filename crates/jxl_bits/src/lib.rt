@@ -7,7 +7,7 @@ ghost use Rattle.jxl_bits.specs.Readers as F;
 ghost use Rattle.jxl_bits.specs.Inside.{Ready};
 ghost use Rattle.jxl_bits.specs.Told.{toldU32, toldBool, toldMoved};
 
-pub enum Refusal {
+pub enum FieldRefusal {
     UnexpectedEof,
     NonZeroPadding,
     InvalidFloat,
@@ -19,17 +19,17 @@ pub enum Refusal {
 // Each answer holds the position after the call, refusals too.
 pub enum ReadU32 {
     Value(u32, usize),
-    Refused(Refusal, usize),
+    Refused(FieldRefusal, usize),
 }
 
 pub enum ReadBool {
     Value(bool, usize),
-    Refused(Refusal, usize),
+    Refused(FieldRefusal, usize),
 }
 
 pub enum Moved {
     To(usize),
-    Refused(Refusal, usize),
+    Refused(FieldRefusal, usize),
 }
 
 // What comes before every reading: 8, 7, then the position moved to the end.
@@ -37,10 +37,10 @@ pub fn begin(s: &[u8], at: usize, wide: bool) -> Moved
     ensures { λ r. ⌜ toldMoved r ≡ F.begin wide (now (s .entry)) at ⌝ }
 {
     if 0x1fff_ffff_ffff_ffff < s.len() {
-        return Moved::Refused(Refusal::TooLong, at);
+        return Moved::Refused(FieldRefusal::TooLong, at);
     }
     if wide {
-        return Moved::Refused(Refusal::Width, at);
+        return Moved::Refused(FieldRefusal::Width, at);
     }
     let end = 8 * s.len();
     if at <= end {
@@ -117,7 +117,7 @@ fn part(s: &[u8], at: usize, n: usize) -> ReadU32
     if n <= 8 * s.len() - at {
         ReadU32::Value(look(s, at, n), at + n)
     } else {
-        ReadU32::Refused(Refusal::UnexpectedEof, at)
+        ReadU32::Refused(FieldRefusal::UnexpectedEof, at)
     }
 }
 
@@ -149,7 +149,7 @@ fn step(s: &[u8], p: usize, n: usize, stop: usize) -> Moved
     if n <= 8 * s.len() - p {
         Moved::To(p + n)
     } else {
-        Moved::Refused(Refusal::UnexpectedEof, stop)
+        Moved::Refused(FieldRefusal::UnexpectedEof, stop)
     }
 }
 
@@ -182,12 +182,12 @@ fn zeros(s: &[u8], at: usize) -> Moved
     ensures { λ r. ⌜ toldMoved r ≡ F.zeros (now (s .entry)) at ⌝ }
 {
     let ReadU32::Value(x, next) = part(s, at, (8 - at % 8) % 8) else {
-        return Moved::Refused(Refusal::UnexpectedEof, at);
+        return Moved::Refused(FieldRefusal::UnexpectedEof, at);
     };
     if x == 0 {
         Moved::To(next)
     } else {
-        Moved::Refused(Refusal::NonZeroPadding, next)
+        Moved::Refused(FieldRefusal::NonZeroPadding, next)
     }
 }
 

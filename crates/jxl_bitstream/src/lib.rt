@@ -1,8 +1,8 @@
 // JPEG XL fields: the names of the Rust's crate, from one place. There is no code here.
+pub use jxl_bits::FieldRefusal;
 pub use jxl_bits::Moved;
 pub use jxl_bits::ReadBool;
 pub use jxl_bits::ReadU32;
-pub use jxl_bits::Refusal;
 pub use jxl_bits::consume_bits;
 pub use jxl_bits::num_read_bits;
 pub use jxl_bits::peek_bits;

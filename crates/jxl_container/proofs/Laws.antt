@@ -23,17 +23,17 @@ use Rattle.jxl_headers.specs.declared.consts.Signature.{Signature}
 use Rattle.jxl_headers.specs.declared.consts.Signature.the-variants as G
 use Rattle.jxl_container.specs.declared.BitstreamKind.{BitstreamKind}
 use Rattle.jxl_container.specs.declared.BitstreamKind.the-variants as K
-use Rattle.jxl_headers.specs.declared.Left.{Left}
-use Rattle.jxl_headers.specs.declared.Left.the-variants.{ToEnd, Bytes}
+use Rattle.jxl_headers.specs.declared.BytesLeft.{BytesLeft}
+use Rattle.jxl_headers.specs.declared.BytesLeft.the-variants.{ToEnd, Bytes}
 use Rattle.jxl_container.specs.declared.JxlpIndexState.{JxlpIndexState}
 use Rattle.jxl_container.specs.declared.JxlpIndexState.the-variants.{Initial, SingleJxlc, Jxlp, JxlpFinished}
 use Rattle.jxl_container.specs.declared.DetectState.{DetectState}
 use Rattle.jxl_container.specs.declared.DetectState.the-variants as S
 use Rattle.jxl_container.specs.declared.ContainerParser.{ContainerParser}
-use Rattle.jxl_headers.specs.declared.Refusal.{Refusal}
-use Rattle.jxl_headers.specs.declared.Refusal.the-variants.{InvalidBox, ValidationFailed}
-use Rattle.jxl_container.specs.declared.parse.Event.{Event}
-use Rattle.jxl_container.specs.declared.parse.Event.the-variants as E
+use Rattle.jxl_headers.specs.declared.BoxRefusal.{BoxRefusal}
+use Rattle.jxl_headers.specs.declared.BoxRefusal.the-variants.{InvalidBox, ValidationFailed}
+use Rattle.jxl_container.specs.declared.parse.ParseEvent.{ParseEvent}
+use Rattle.jxl_container.specs.declared.parse.ParseEvent.the-variants as E
 
 pub refused-stays : RefusedStays
 refused-stays k r j [] = step-empty-refused (at (S.Refused k r) j) refl
@@ -51,13 +51,13 @@ stays-in (S.Refused k r) j e = (why r, refused-stays k r j)
 pub stays : (p : ContainerParser) → isRefused p ≡ true → (w : Why) × Repeats w p
 stays p e = stays-in (p .state) (p .jxlp) e
 
-inside-ahead : (k n : ℕ) (e : Event) → k ≤ n → Inside e (n - k) → Inside (shifted k e) n
-inside-ahead k n (E.Kind x) h i = tt
-inside-ahead k n E.NoMoreAux h i = tt
+inside-ahead : (k n : ℕ) (e : ParseEvent) → k ≤ n → Inside e (n - k) → Inside (shifted k e) n
+inside-ahead k n (E.BitstreamKind x) h i = tt
+inside-ahead k n E.NoMoreAuxBox h i = tt
 inside-ahead k n (E.Codestream a l) h i = omega arith
-inside-ahead k n (E.AuxStart t b e) h i = tt
-inside-ahead k n (E.AuxData t a l) h i = omega arith
-inside-ahead k n (E.AuxEnd t) h i = tt
+inside-ahead k n (E.AuxBoxStart t b e) h i = tt
+inside-ahead k n (E.AuxBoxData t a l) h i = omega arith
+inside-ahead k n (E.AuxBoxEnd t) h i = tt
 
 kept-ahead : (k : ℕ) (s : List ℕ) (t : Told) → k ≤ length s → Kept (length (drop k s)) t → Kept (length s) (ahead k t)
 kept-ahead k s (shows e p c) h i =
@@ -65,10 +65,10 @@ kept-ahead k s (shows e p c) h i =
 kept-ahead k s (wants p c) h i = (omega (arith, length-drop k s), omega (arith, length-drop k s))
 kept-ahead k s (refuses r p c) h i = (omega (arith, length-drop k s), i .1)
 
-kept-refuse : (r : Refusal) (p : ContainerParser) (c n : ℕ) → c ≤ n → Kept n (refuse r p c)
+kept-refuse : (r : BoxRefusal) (p : ContainerParser) (c n : ℕ) → c ≤ n → Kept n (refuse r p c)
 kept-refuse r p c n h = (h, refused-stays _ r (p .jxlp))
 
-kept-part : (j : JxlpIndexState) (k : BitstreamKind) (l : Left) (n : ℕ) → Kept n (codePart j k l n)
+kept-part : (j : JxlpIndexState) (k : BitstreamKind) (l : BytesLeft) (n : ℕ) → Kept n (codePart j k l n)
 kept-part j k ToEnd n = (omega arith, omega arith)
 kept-part j k (Bytes m) n = go (leb m n) refl
   where
@@ -76,12 +76,12 @@ kept-part j k (Bytes m) n = go (leb m n) refl
     go true e = rw e (leb-true m n e, omega (arith, leb-true m n e))
     go false e = rw e (omega arith, omega arith)
 
-kept-code : (j : JxlpIndexState) (k : BitstreamKind) (l : Left) (pending : Bool) (s : List ℕ) → Kept (length s) (codeStep j k l pending s)
+kept-code : (j : JxlpIndexState) (k : BitstreamKind) (l : BytesLeft) (pending : Bool) (s : List ℕ) → Kept (length s) (codeStep j k l pending s)
 kept-code j k l pending [] = rw (code-wants j k l [] pending (omega arith)) (omega arith, omega arith)
 kept-code j k l true (x ∷ s) = rw (code-pending j k l (x ∷ s) (omega arith)) (omega arith, tt)
 kept-code j k l false (x ∷ s) = rw (code-shows j k l (x ∷ s) (omega arith)) (kept-part j k l (length (x ∷ s)))
 
-kept-aux : (j : JxlpIndexState) (t : ℕ) (l : Left) (n : ℕ) → Kept n (auxPart j t l n)
+kept-aux : (j : JxlpIndexState) (t : ℕ) (l : BytesLeft) (n : ℕ) → Kept n (auxPart j t l n)
 kept-aux j t ToEnd n = (omega arith, omega arith)
 kept-aux j t (Bytes m) n = go (eqb m 0) refl
   where
@@ -89,7 +89,7 @@ kept-aux j t (Bytes m) n = go (eqb m 0) refl
     go true e = rw e (omega arith, tt)
     go false e = rw e (omega arith, omega arith)
 
-kept-index : (i : ℕ) (l : Left) (s : List ℕ) → Kept (length s) (indexStep i l s)
+kept-index : (i : ℕ) (l : BytesLeft) (s : List ℕ) → Kept (length s) (indexStep i l s)
 kept-index i l s = go (ltb (length s) 4) refl (eqb (be32 s 0 % 0x80000000) i) refl
   where
     go : (t : Bool) → ltb (length s) 4 ≡ t → (u : Bool) → eqb (be32 s 0 % 0x80000000) i ≡ u → Kept (length s) (indexStep i l s)
@@ -102,7 +102,7 @@ kept-index i l s = go (ltb (length s) 4) refl (eqb (be32 s 0 % 0x80000000) i) re
         let h = ltb-false (length s) 4 e in
         rw (index-wrong i l s h (eqb-false (be32 s 0 % 0x80000000) i f)) (kept-refuse InvalidBox (at (S.WaitingJxlpIndex l) (Jxlp i)) 4 (length s) h)
 
-kept-inner : (j : JxlpIndexState) (l : Left) (s : List ℕ) → Kept (length s) (innerStep j l s)
+kept-inner : (j : JxlpIndexState) (l : BytesLeft) (s : List ℕ) → Kept (length s) (innerStep j l s)
 kept-inner j l s = go (ltb (length s) 4) refl (reserved (be32 s 0)) refl
   where
     go : (t : Bool) → ltb (length s) 4 ≡ t → (u : Bool) → reserved (be32 s 0) ≡ u → Kept (length s) (innerStep j l s)
@@ -112,23 +112,23 @@ kept-inner j l s = go (ltb (length s) 4) refl (reserved (be32 s 0)) refl
         rw (inner-reserved j l s h f) (kept-refuse ValidationFailed (at (S.WaitingInnerType l) j) 4 (length s) h)
     go false e false f = rw (inner-shows j l s (ltb-false (length s) 4 e) f) (ltb-false (length s) 4 e, tt)
 
-kept-none : (r : Refusal) (p : ContainerParser) (s : List ℕ) → Kept (length s) (refuse r p 0)
+kept-none : (r : BoxRefusal) (p : ContainerParser) (s : List ℕ) → Kept (length s) (refuse r p 0)
 kept-none r p s = kept-refuse r p 0 (length s) (omega arith)
 
-kept-jxlc : (j : JxlpIndexState) (l : Left) (s : List ℕ) → Kept (length s) (jxlcStep j l s)
+kept-jxlc : (j : JxlpIndexState) (l : BytesLeft) (s : List ℕ) → Kept (length s) (jxlcStep j l s)
 kept-jxlc Initial l s = kept-code SingleJxlc K.Container l (toEnd l) s
 kept-jxlc SingleJxlc l s = kept-none InvalidBox (at S.WaitingBoxHeader SingleJxlc) s
 kept-jxlc (Jxlp i) l s = kept-none InvalidBox (at S.WaitingBoxHeader (Jxlp i)) s
 kept-jxlc JxlpFinished l s = kept-none InvalidBox (at S.WaitingBoxHeader JxlpFinished) s
 
-kept-next : (j : JxlpIndexState) (l : Left) (s : List ℕ) → Kept (length s) (jxlpNext j l s)
+kept-next : (j : JxlpIndexState) (l : BytesLeft) (s : List ℕ) → Kept (length s) (jxlpNext j l s)
 kept-next Initial l s = kept-index 0 l s
 kept-next SingleJxlc l s = kept-none InvalidBox (at S.WaitingBoxHeader SingleJxlc) s
 kept-next (Jxlp i) l s = kept-index (i + 1) l s
 kept-next JxlpFinished l s = kept-none InvalidBox (at S.WaitingBoxHeader JxlpFinished) s
 
 -- a rule, or the refusal of a payload under 4
-kept-sized : (j : JxlpIndexState) (l : Left) (s : List ℕ) (t : Told) → Kept (length s) t
+kept-sized : (j : JxlpIndexState) (l : BytesLeft) (s : List ℕ) (t : Told) → Kept (length s) t
     → Kept (length s) (if (under 4 l) (refuse InvalidBox (at S.WaitingBoxHeader j) 0) t)
 kept-sized j l s t i = go (under 4 l)
   where
@@ -136,7 +136,7 @@ kept-sized j l s t i = go (under 4 l)
     go true = kept-none InvalidBox (at S.WaitingBoxHeader j) s
     go false = i
 
-kept-box : (j : JxlpIndexState) (t : ℕ) (l : Left) (s : List ℕ) → Kept (length s) (boxStep j t l s)
+kept-box : (j : JxlpIndexState) (t : ℕ) (l : BytesLeft) (s : List ℕ) → Kept (length s) (boxStep j t l s)
 kept-box j t l s = go (eqb t jxlc) refl (eqb t jxlp) refl (eqb t brob) refl
   where
     go : (u : Bool) → eqb t jxlc ≡ u → (v : Bool) → eqb t jxlp ≡ v → (w : Bool) → eqb t brob ≡ w → Kept (length s) (boxStep j t l s)

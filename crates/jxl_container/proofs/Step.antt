@@ -17,31 +17,31 @@ use Rattle.jxl_headers.specs.Types.{jxlc, jxlp, brob, reserved}
 use Rattle.jxl_container.specs.Step.{Told, shows, wants, refuses, refuse, shifted, ahead, inCode, codePart, codeStep, row, indexStep, innerStep, jxlcStep, jxlpStep, brobStep, boxStep, stateStep, stepOf, part}
 use Rattle.jxl_container.specs.declared.BitstreamKind.{BitstreamKind}
 use Rattle.jxl_container.specs.declared.BitstreamKind.the-variants as K
-use Rattle.jxl_headers.specs.declared.Left.{Left}
+use Rattle.jxl_headers.specs.declared.BytesLeft.{BytesLeft}
 use Rattle.jxl_container.specs.declared.JxlpIndexState.{JxlpIndexState}
 use Rattle.jxl_container.specs.declared.JxlpIndexState.the-variants.{Jxlp}
 use Rattle.jxl_container.specs.declared.DetectState.{DetectState}
 use Rattle.jxl_container.specs.declared.DetectState.the-variants as S
 use Rattle.jxl_container.specs.declared.ContainerParser.{ContainerParser}
-use Rattle.jxl_headers.specs.declared.Refusal.the-variants.{InvalidBox, ValidationFailed}
-use Rattle.jxl_container.specs.declared.parse.Event.{Event}
-use Rattle.jxl_container.specs.declared.parse.Event.the-variants as E
+use Rattle.jxl_headers.specs.declared.BoxRefusal.the-variants.{InvalidBox, ValidationFailed}
+use Rattle.jxl_container.specs.declared.parse.ParseEvent.{ParseEvent}
+use Rattle.jxl_container.specs.declared.parse.ParseEvent.the-variants as E
 
-pub shifted-zero : (e : Event) → shifted 0 e ≡ e
-shifted-zero (E.Kind k) = refl
-shifted-zero E.NoMoreAux = refl
+pub shifted-zero : (e : ParseEvent) → shifted 0 e ≡ e
+shifted-zero (E.BitstreamKind k) = refl
+shifted-zero E.NoMoreAuxBox = refl
 shifted-zero (E.Codestream a l) = rw zero-add
-shifted-zero (E.AuxStart t b e) = refl
-shifted-zero (E.AuxData t a l) = rw zero-add
-shifted-zero (E.AuxEnd t) = refl
+shifted-zero (E.AuxBoxStart t b e) = refl
+shifted-zero (E.AuxBoxData t a l) = rw zero-add
+shifted-zero (E.AuxBoxEnd t) = refl
 
-pub shifted-shifted : (n m : ℕ) (e : Event) → shifted n (shifted m e) ≡ shifted (n + m) e
-shifted-shifted n m (E.Kind k) = refl
-shifted-shifted n m E.NoMoreAux = refl
+pub shifted-shifted : (n m : ℕ) (e : ParseEvent) → shifted n (shifted m e) ≡ shifted (n + m) e
+shifted-shifted n m (E.BitstreamKind k) = refl
+shifted-shifted n m E.NoMoreAuxBox = refl
 shifted-shifted n m (E.Codestream a l) = rw (add-assoc n m a)
-shifted-shifted n m (E.AuxStart t b e) = refl
-shifted-shifted n m (E.AuxData t a l) = rw (add-assoc n m a)
-shifted-shifted n m (E.AuxEnd t) = refl
+shifted-shifted n m (E.AuxBoxStart t b e) = refl
+shifted-shifted n m (E.AuxBoxData t a l) = rw (add-assoc n m a)
+shifted-shifted n m (E.AuxBoxEnd t) = refl
 
 pub ahead-zero : (t : Told) → ahead 0 t ≡ t
 ahead-zero (shows e p c) = rw (shifted-zero e, zero-add c)
@@ -63,12 +63,12 @@ pub be32-drop : (s : List ℕ) (n : ℕ) → be32 (drop n s) 0 ≡ be32 s n
 be32-drop s n = simp (getD-drop, add-zero)
 
 -- the rules
-module _ (j : JxlpIndexState) (k : BitstreamKind) (l : Left) (s : List ℕ) where
+module _ (j : JxlpIndexState) (k : BitstreamKind) (l : BytesLeft) (s : List ℕ) where
   pub code-wants : (pending : Bool) → length s ≤ 0 → codeStep j k l pending s ≡ wants (inCode k l pending j) 0
   unfolding codeStep
   code-wants pending h = rw (empty-yes s h)
 
-  pub code-pending : 0 < length s → codeStep j k l true s ≡ shows E.NoMoreAux (inCode k l false j) 0
+  pub code-pending : 0 < length s → codeStep j k l true s ≡ shows E.NoMoreAuxBox (inCode k l false j) 0
   unfolding codeStep
   code-pending h = rw (empty-no s h)
 
@@ -76,7 +76,7 @@ module _ (j : JxlpIndexState) (k : BitstreamKind) (l : Left) (s : List ℕ) wher
   unfolding codeStep
   code-shows h = rw (empty-no s h)
 
-module _ (i : ℕ) (l : Left) (s : List ℕ) where
+module _ (i : ℕ) (l : BytesLeft) (s : List ℕ) where
   pub index-wants : length s < 4 → indexStep i l s ≡ wants (at (S.WaitingJxlpIndex l) (Jxlp i)) 0
   unfolding indexStep
   index-wants h = rw (lt-ltb (length s) 4 h)
@@ -90,7 +90,7 @@ module _ (i : ℕ) (l : Left) (s : List ℕ) where
   unfolding indexStep
   index-wrong h n = rw (le-ltb (length s) 4 h, ne-eqb (be32 s 0 % 0x80000000) i n)
 
-module _ (j : JxlpIndexState) (l : Left) (s : List ℕ) where
+module _ (j : JxlpIndexState) (l : BytesLeft) (s : List ℕ) where
   pub inner-wants : length s < 4 → innerStep j l s ≡ wants (at (S.WaitingInnerType l) j) 0
   unfolding innerStep
   inner-wants h = rw (lt-ltb (length s) 4 h)
@@ -100,7 +100,7 @@ module _ (j : JxlpIndexState) (l : Left) (s : List ℕ) where
   inner-reserved h e = rw (le-ltb (length s) 4 h, e)
 
   pub inner-shows : 4 ≤ length s → reserved (be32 s 0) ≡ false
-      → innerStep j l s ≡ shows (E.AuxStart (be32 s 0) true (toEnd l)) (at (S.InAuxBox (be32 s 0) (less l 4)) j) 4
+      → innerStep j l s ≡ shows (E.AuxBoxStart (be32 s 0) true (toEnd l)) (at (S.InAuxBox (be32 s 0) (less l 4)) j) 4
   unfolding innerStep
   inner-shows h e = rw (le-ltb (length s) 4 h, e)
 
@@ -109,46 +109,46 @@ module _ (s : List ℕ) (n : ℕ) where
   rest-is : length (drop n s) ≡ length s - n
   rest-is = length-drop n s
 
-  pub far-code-wants : (j : JxlpIndexState) (k : BitstreamKind) (l : Left) (pending : Bool) → length s ≤ n
+  pub far-code-wants : (j : JxlpIndexState) (k : BitstreamKind) (l : BytesLeft) (pending : Bool) → length s ≤ n
       → ahead n (codeStep j k l pending (drop n s)) ≡ wants (inCode k l pending j) n
   far-code-wants j k l pending h = rw (code-wants j k l (drop n s) pending (omega (arith, rest-is)), add-zero n)
 
-  pub far-code-pending : (j : JxlpIndexState) (k : BitstreamKind) (l : Left) (pending : Bool) → n < length s → pending ≡ true
-      → ahead n (codeStep j k l pending (drop n s)) ≡ shows E.NoMoreAux (inCode k l false j) n
+  pub far-code-pending : (j : JxlpIndexState) (k : BitstreamKind) (l : BytesLeft) (pending : Bool) → n < length s → pending ≡ true
+      → ahead n (codeStep j k l pending (drop n s)) ≡ shows E.NoMoreAuxBox (inCode k l false j) n
   far-code-pending j k l pending h e = rw (e, code-pending j k l (drop n s) (omega (arith, rest-is)), add-zero n)
 
-  pub far-code-shows : (j : JxlpIndexState) (k : BitstreamKind) (l : Left) (pending : Bool) → n < length s → pending ≡ false
+  pub far-code-shows : (j : JxlpIndexState) (k : BitstreamKind) (l : BytesLeft) (pending : Bool) → n < length s → pending ≡ false
       → ahead n (codeStep j k l pending (drop n s)) ≡ ahead n (codePart j k l (length s - n))
   far-code-shows j k l pending h e = rw (e, code-shows j k l (drop n s) (omega (arith, rest-is)), rest-is)
 
-  pub far-index-wants : (i : ℕ) (l : Left) → length s - n < 4 → ahead n (indexStep i l (drop n s)) ≡ wants (at (S.WaitingJxlpIndex l) (Jxlp i)) n
+  pub far-index-wants : (i : ℕ) (l : BytesLeft) → length s - n < 4 → ahead n (indexStep i l (drop n s)) ≡ wants (at (S.WaitingJxlpIndex l) (Jxlp i)) n
   far-index-wants i l h = rw (index-wants i l (drop n s) (omega (arith, rest-is)), add-zero n)
 
-  pub far-index-right : (i : ℕ) (l : Left) → 4 ≤ length s - n → be32 s n % 0x80000000 ≡ i
+  pub far-index-right : (i : ℕ) (l : BytesLeft) → 4 ≤ length s - n → be32 s n % 0x80000000 ≡ i
       → ahead n (indexStep i l (drop n s)) ≡ ahead (n + 4) (codeStep (row (be32 s n) i) K.Container (less l 4) (toEnd l) (drop (n + 4) s))
   far-index-right i l h e =
       rw (index-right i l (drop n s) (omega (arith, rest-is)) (ap (λ (w : ℕ). w % 0x80000000) (be32-drop s n) ∙ e), be32-drop s n, drop-drop 4 n s)
       (ahead-ahead n 4 (codeStep (row (be32 s n) i) K.Container (less l 4) (toEnd l) (drop (n + 4) s)))
 
-  pub far-index-wrong : (i : ℕ) (l : Left) → 4 ≤ length s - n → (be32 s n % 0x80000000 ≡ i → ⊥)
+  pub far-index-wrong : (i : ℕ) (l : BytesLeft) → 4 ≤ length s - n → (be32 s n % 0x80000000 ≡ i → ⊥)
       → ahead n (indexStep i l (drop n s)) ≡ refuse InvalidBox (at (S.WaitingJxlpIndex l) (Jxlp i)) (n + 4)
   far-index-wrong i l h d =
       rw (index-wrong i l (drop n s) (omega (arith, rest-is)) (λ e. d (sym (ap (λ (w : ℕ). w % 0x80000000) (be32-drop s n)) ∙ e)))
 
-  pub far-inner-wants : (j : JxlpIndexState) (l : Left) → length s - n < 4 → ahead n (innerStep j l (drop n s)) ≡ wants (at (S.WaitingInnerType l) j) n
+  pub far-inner-wants : (j : JxlpIndexState) (l : BytesLeft) → length s - n < 4 → ahead n (innerStep j l (drop n s)) ≡ wants (at (S.WaitingInnerType l) j) n
   far-inner-wants j l h = rw (inner-wants j l (drop n s) (omega (arith, rest-is)), add-zero n)
 
-  pub far-inner-reserved : (j : JxlpIndexState) (l : Left) → 4 ≤ length s - n → reserved (be32 s n) ≡ true
+  pub far-inner-reserved : (j : JxlpIndexState) (l : BytesLeft) → 4 ≤ length s - n → reserved (be32 s n) ≡ true
       → ahead n (innerStep j l (drop n s)) ≡ refuse ValidationFailed (at (S.WaitingInnerType l) j) (n + 4)
   far-inner-reserved j l h e = rw (inner-reserved j l (drop n s) (omega (arith, rest-is)) (ap reserved (be32-drop s n) ∙ e))
 
-  pub far-inner-shows : (j : JxlpIndexState) (l : Left) → 4 ≤ length s - n → reserved (be32 s n) ≡ false
-      → ahead n (innerStep j l (drop n s)) ≡ shows (E.AuxStart (be32 s n) true (toEnd l)) (at (S.InAuxBox (be32 s n) (less l 4)) j) (n + 4)
+  pub far-inner-shows : (j : JxlpIndexState) (l : BytesLeft) → 4 ≤ length s - n → reserved (be32 s n) ≡ false
+      → ahead n (innerStep j l (drop n s)) ≡ shows (E.AuxBoxStart (be32 s n) true (toEnd l)) (at (S.InAuxBox (be32 s n) (less l 4)) j) (n + 4)
   far-inner-shows j l h e =
       rw (inner-shows j l (drop n s) (omega (arith, rest-is)) (ap reserved (be32-drop s n) ∙ e), be32-drop s n)
 
 -- a box of each type
-module _ (j : JxlpIndexState) (t : ℕ) (l : Left) (s : List ℕ) where
+module _ (j : JxlpIndexState) (t : ℕ) (l : BytesLeft) (s : List ℕ) where
   pub box-jxlc : t ≡ jxlc → boxStep j t l s ≡ jxlcStep j l s
   unfolding boxStep
   box-jxlc e = rw e
@@ -161,7 +161,7 @@ module _ (j : JxlpIndexState) (t : ℕ) (l : Left) (s : List ℕ) where
   unfolding boxStep
   box-brob e = rw e
 
-  pub box-aux : (t ≡ jxlc → ⊥) → (t ≡ jxlp → ⊥) → (t ≡ brob → ⊥) → boxStep j t l s ≡ shows (E.AuxStart t false (toEnd l)) (at (S.InAuxBox t l) j) 0
+  pub box-aux : (t ≡ jxlc → ⊥) → (t ≡ jxlp → ⊥) → (t ≡ brob → ⊥) → boxStep j t l s ≡ shows (E.AuxBoxStart t false (toEnd l)) (at (S.InAuxBox t l) j) 0
   unfolding boxStep
   box-aux a b c = rw (ne-eqb t jxlc a, ne-eqb t jxlp b, ne-eqb t brob c)
 

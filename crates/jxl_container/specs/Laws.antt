@@ -11,15 +11,15 @@ use Rattle.jxl_container.specs.Record.{at, fresh, kindOf}
 use Rattle.jxl_container.specs.Step.{Told, shows, wants, refuses, told, stepOf, payload, payloadOf}
 use Rattle.jxl_container.specs.declared.BitstreamKind.{BitstreamKind}
 use Rattle.jxl_container.specs.declared.JxlpIndexState.{JxlpIndexState}
-use Rattle.jxl_headers.specs.declared.Refusal.{Refusal}
+use Rattle.jxl_headers.specs.declared.BoxRefusal.{BoxRefusal}
 use Rattle.jxl_container.specs.declared.DetectState.the-variants as S
 use Rattle.jxl_container.specs.declared.ContainerParser.{ContainerParser}
-use Rattle.jxl_container.specs.declared.parse.Event.{Event}
+use Rattle.jxl_container.specs.declared.parse.ParseEvent.{ParseEvent}
 
 -- refused stays: a refused parser answers its refusal, consumes nothing and is unchanged, also on an empty input
 abbrev pub RefusedStays : Type 0
 RefusedStays =
-    (k : BitstreamKind) (r : Refusal) (j : JxlpIndexState) (s : List ℕ)
+    (k : BitstreamKind) (r : BoxRefusal) (j : JxlpIndexState) (s : List ℕ)
     → stepOf (at (S.Refused k r) j) s ≡ refuses (why r) (at (S.Refused k r) j) 0
 
 -- a parser that answers refusal w to every input, and stays as it is
@@ -27,7 +27,7 @@ abbrev pub Repeats : Why → ContainerParser → Type 0
 Repeats w p = (s : List ℕ) → stepOf p s ≡ refuses w p 0
 
 -- an event whose payload, if it shows one, lies inside n bytes
-abbrev pub Inside : Event → ℕ → Type 0
+abbrev pub Inside : ParseEvent → ℕ → Type 0
 Inside e n = PayloadInside (payload e) n
 
 -- what a step tells of n bytes: it consumes no more than the input has; a payload shown lies inside the input; on WANT at most 15
@@ -51,4 +51,4 @@ abbrev pub OneStep : Type 0
 OneStep = (p : ContainerParser) (s : List ℕ) → OneAnswer (λ r. told r ≡ stepOf p s)
 
 abbrev pub OnePayload : Type 0
-OnePayload = (s : List ℕ) (e : Event) → OneAnswer (λ r. r ≡ payloadOf s e)
+OnePayload = (s : List ℕ) (e : ParseEvent) → OneAnswer (λ r. r ≡ payloadOf s e)

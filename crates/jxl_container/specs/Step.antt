@@ -17,23 +17,23 @@ use Rattle.jxl_headers.specs.declared.consts.Signature.{Signature}
 use Rattle.jxl_headers.specs.declared.consts.Signature.the-variants as G
 use Rattle.jxl_container.specs.declared.BitstreamKind.{BitstreamKind}
 use Rattle.jxl_container.specs.declared.BitstreamKind.the-variants as K
-use Rattle.jxl_headers.specs.declared.Left.{Left}
-use Rattle.jxl_headers.specs.declared.Left.the-variants.{ToEnd, Bytes}
+use Rattle.jxl_headers.specs.declared.BytesLeft.{BytesLeft}
+use Rattle.jxl_headers.specs.declared.BytesLeft.the-variants.{ToEnd, Bytes}
 use Rattle.jxl_container.specs.declared.JxlpIndexState.{JxlpIndexState}
 use Rattle.jxl_container.specs.declared.JxlpIndexState.the-variants.{Initial, SingleJxlc, Jxlp, JxlpFinished}
 use Rattle.jxl_container.specs.declared.DetectState.{DetectState}
 use Rattle.jxl_container.specs.declared.DetectState.the-variants as S
 use Rattle.jxl_container.specs.declared.ContainerParser.{ContainerParser}
-use Rattle.jxl_headers.specs.declared.Refusal.{Refusal}
-use Rattle.jxl_headers.specs.declared.Refusal.the-variants.{InvalidBox, ValidationFailed}
-use Rattle.jxl_container.specs.declared.parse.Event.{Event}
-use Rattle.jxl_container.specs.declared.parse.Event.the-variants as E
+use Rattle.jxl_headers.specs.declared.BoxRefusal.{BoxRefusal}
+use Rattle.jxl_headers.specs.declared.BoxRefusal.the-variants.{InvalidBox, ValidationFailed}
+use Rattle.jxl_container.specs.declared.parse.ParseEvent.{ParseEvent}
+use Rattle.jxl_container.specs.declared.parse.ParseEvent.the-variants as E
 use Rattle.jxl_container.specs.declared.parse.Step.{Step}
 use Rattle.jxl_container.specs.declared.parse.Step.the-variants as A
 
 -- one step gives one event, WANT or a refusal by its number and what it tells, with the next parser and the bytes consumed
 abbrev pub Told : Type 0
-Told = Answer ContainerParser Event Why
+Told = Answer ContainerParser ParseEvent Why
 
 -- what an answer of the code says in these terms
 abbrev pub told : Step → Told
@@ -42,61 +42,61 @@ told (A.Want p n) = wants p n
 told (A.Refused p n r) = refuses (why r) p n
 
 -- a refusal leaves the parser refused, and its kind what it was
-abbrev pub refused : Refusal → ContainerParser → ContainerParser
+abbrev pub refused : BoxRefusal → ContainerParser → ContainerParser
 refused r p = at (S.Refused (kindOf p) r) (p .jxlp)
 
-abbrev pub refuse : Refusal → ContainerParser → ℕ → Told
+abbrev pub refuse : BoxRefusal → ContainerParser → ℕ → Told
 refuse r p n = refuses (why r) (refused r p) n
 
 -- an event whose payload stands n bytes further on
-abbrev pub shifted : ℕ → Event → Event
-shifted n (E.Kind k) = E.Kind k
-shifted n E.NoMoreAux = E.NoMoreAux
+abbrev pub shifted : ℕ → ParseEvent → ParseEvent
+shifted n (E.BitstreamKind k) = E.BitstreamKind k
+shifted n E.NoMoreAuxBox = E.NoMoreAuxBox
 shifted n (E.Codestream a l) = E.Codestream (n + a) l
-shifted n (E.AuxStart t b e) = E.AuxStart t b e
-shifted n (E.AuxData t a l) = E.AuxData t (n + a) l
-shifted n (E.AuxEnd t) = E.AuxEnd t
+shifted n (E.AuxBoxStart t b e) = E.AuxBoxStart t b e
+shifted n (E.AuxBoxData t a l) = E.AuxBoxData t (n + a) l
+shifted n (E.AuxBoxEnd t) = E.AuxBoxEnd t
 
 -- what is told of the input behind its first n bytes, said of the whole input
 abbrev pub ahead : ℕ → Told → Told
 ahead = aheadBy shifted
 
-abbrev pub inCode : BitstreamKind → Left → Bool → JxlpIndexState → ContainerParser
+abbrev pub inCode : BitstreamKind → BytesLeft → Bool → JxlpIndexState → ContainerParser
 inCode k l pending j = at (S.InCodestream k l pending) j
 
 -- KIND bare or invalid, nothing consumed; the record then has NO_MORE_AUX to tell, and all bytes as CODESTREAM, the first ones too
 abbrev pub bareStep : BitstreamKind → JxlpIndexState → Told
-bareStep k j = shows (E.Kind k) (inCode k ToEnd true j) 0
+bareStep k j = shows (E.BitstreamKind k) (inCode k ToEnd true j) 0
 
 -- signature. Starts with FF 0A: event KIND bare, nothing consumed. Starts with the 12 bytes: KIND container, 12 consumed.
 -- A proper prefix of either: WANT. Else KIND invalid, nothing consumed
 abbrev pub signatureStep : JxlpIndexState → Signature → Told
 signatureStep j G.Bare = bareStep K.BareCodestream j
-signatureStep j G.Container = shows (E.Kind K.Container) (at S.WaitingBoxHeader j) 12
+signatureStep j G.Container = shows (E.BitstreamKind K.Container) (at S.WaitingBoxHeader j) 12
 signatureStep j G.TooShort = wants (at S.WaitingSignature j) 0
 signatureStep j G.Neither = bareStep K.Invalid j
 
 -- CODESTREAM: all of the n bytes of input, at least one, that belong to the box
-abbrev pub codePart : JxlpIndexState → BitstreamKind → Left → ℕ → Told
+abbrev pub codePart : JxlpIndexState → BitstreamKind → BytesLeft → ℕ → Told
 codePart j k ToEnd n = shows (E.Codestream 0 n) (inCode k ToEnd false j) n
 codePart j k (Bytes m) n =
     if (leb m n) (shows (E.Codestream 0 m) (at S.WaitingBoxHeader j) m)
     (shows (E.Codestream 0 n) (inCode k (Bytes (m - n)) false j) n)
 
 -- inside a codestream: codestream to the end, NO_MORE_AUX first. A payload of 0 gives one empty CODESTREAM
-unfoldable pub codeStep : JxlpIndexState → BitstreamKind → Left → Bool → List ℕ → Told
+unfoldable pub codeStep : JxlpIndexState → BitstreamKind → BytesLeft → Bool → List ℕ → Told
 codeStep j k l pending s =
     if (empty s) (wants (inCode k l pending j) 0)
-    (if pending (shows E.NoMoreAux (inCode k l false j) 0)
+    (if pending (shows E.NoMoreAuxBox (inCode k l false j) 0)
     (codePart j k l (length s)))
 
 -- inside a side box, with n bytes of input, at least one. AUX_DATA: all input that belongs to the box, never empty.
 -- AUX_END when 0 bytes are left
-abbrev pub auxPart : JxlpIndexState → ℕ → Left → ℕ → Told
-auxPart j t ToEnd n = shows (E.AuxData t 0 n) (at (S.InAuxBox t ToEnd) j) n
+abbrev pub auxPart : JxlpIndexState → ℕ → BytesLeft → ℕ → Told
+auxPart j t ToEnd n = shows (E.AuxBoxData t 0 n) (at (S.InAuxBox t ToEnd) j) n
 auxPart j t (Bytes m) n =
-    if (eqb m 0) (shows (E.AuxEnd t) (at S.WaitingBoxHeader j) 0)
-    (shows (E.AuxData t 0 (min m n)) (at (S.InAuxBox t (Bytes (m - min m n))) j) (min m n))
+    if (eqb m 0) (shows (E.AuxBoxEnd t) (at S.WaitingBoxHeader j) 0)
+    (shows (E.AuxBoxData t 0 (min m n)) (at (S.InAuxBox t (Bytes (m - min m n))) j) (min m n))
 
 -- the row of `jxlp` boxes behind index i: bit 31 marks the last
 abbrev pub row : ℕ → ℕ → JxlpIndexState
@@ -104,7 +104,7 @@ row word i = if (leb 0x80000000 word) JxlpFinished (Jxlp i)
 
 -- a `jxlp` payload: 4 bytes (WANT below that): bit 31 marks last, the other 31 are the index. Another index than i: refusal 1,
 -- the 4 bytes consumed
-unfoldable pub indexStep : ℕ → Left → List ℕ → Told
+unfoldable pub indexStep : ℕ → BytesLeft → List ℕ → Told
 indexStep i l s =
     if (ltb (length s) 4) (wants (at (S.WaitingJxlpIndex l) (Jxlp i)) 0)
     (if (eqb (be32 s 0 % 0x80000000) i)
@@ -113,45 +113,45 @@ indexStep i l s =
 
 -- a `brob` payload: 4 bytes of inner type (WANT below). A reserved type: refusal 2, the 4 bytes consumed.
 -- Else AUX_START: the inner type, whether compressed, whether to the end
-unfoldable pub innerStep : JxlpIndexState → Left → List ℕ → Told
+unfoldable pub innerStep : JxlpIndexState → BytesLeft → List ℕ → Told
 innerStep j l s =
     if (ltb (length s) 4) (wants (at (S.WaitingInnerType l) j) 0)
     (if (reserved (be32 s 0)) (refuse ValidationFailed (at (S.WaitingInnerType l) j) 4)
-    (shows (E.AuxStart (be32 s 0) true (toEnd l)) (at (S.InAuxBox (be32 s 0) (less l 4)) j) 4))
+    (shows (E.AuxBoxStart (be32 s 0) true (toEnd l)) (at (S.InAuxBox (be32 s 0) (less l 4)) j) 4))
 
 -- refusal 1 of a box, behind its header
 abbrev pub refuseBox : JxlpIndexState → Told
 refuseBox j = refuse InvalidBox (at S.WaitingBoxHeader j) 0
 
 -- `jxlc`: refusal 1 if any `jxlc` or `jxlp` came before
-abbrev pub jxlcStep : JxlpIndexState → Left → List ℕ → Told
+abbrev pub jxlcStep : JxlpIndexState → BytesLeft → List ℕ → Told
 jxlcStep Initial l s = codeStep SingleJxlc K.Container l (toEnd l) s
 jxlcStep SingleJxlc l s = refuseBox SingleJxlc
 jxlcStep (Jxlp i) l s = refuseBox (Jxlp i)
 jxlcStep JxlpFinished l s = refuseBox JxlpFinished
 
 -- `jxlp`: after a `jxlc`, or after a last `jxlp`: refusal 1. The index counts up from 0 over the `jxlp` boxes
-abbrev pub jxlpNext : JxlpIndexState → Left → List ℕ → Told
+abbrev pub jxlpNext : JxlpIndexState → BytesLeft → List ℕ → Told
 jxlpNext Initial l s = indexStep 0 l s
 jxlpNext SingleJxlc l s = refuseBox SingleJxlc
 jxlpNext (Jxlp i) l s = indexStep (i + 1) l s
 jxlpNext JxlpFinished l s = refuseBox JxlpFinished
 
 -- `jxlp`: payload under 4: refusal 1
-abbrev pub jxlpStep : JxlpIndexState → Left → List ℕ → Told
+abbrev pub jxlpStep : JxlpIndexState → BytesLeft → List ℕ → Told
 jxlpStep j l s = if (under 4 l) (refuseBox j) (jxlpNext j l s)
 
 -- `brob`: payload 0 to 3: refusal 1
-abbrev pub brobStep : JxlpIndexState → Left → List ℕ → Told
+abbrev pub brobStep : JxlpIndexState → BytesLeft → List ℕ → Told
 brobStep j l s = if (under 4 l) (refuseBox j) (innerStep j l s)
 
 -- a box of type t, behind its header. Any other type, `ftyp` and a second `JXL ` too: AUX_START, plain
-unfoldable pub boxStep : JxlpIndexState → ℕ → Left → List ℕ → Told
+unfoldable pub boxStep : JxlpIndexState → ℕ → BytesLeft → List ℕ → Told
 boxStep j t l s =
     if (eqb t jxlc) (jxlcStep j l s)
     (if (eqb t jxlp) (jxlpStep j l s)
     (if (eqb t brob) (brobStep j l s)
-    (shows (E.AuxStart t false (toEnd l)) (at (S.InAuxBox t l) j) 0)))
+    (shows (E.AuxBoxStart t false (toEnd l)) (at (S.InAuxBox t l) j) 0)))
 
 -- a refusal in the header consumes nothing; the refusals behind it consume the header
 abbrev pub headerStep : JxlpIndexState → List ℕ → Header → Told
@@ -189,14 +189,14 @@ abbrev pub part : List ℕ → ℕ → ℕ → List ℕ
 part s a n = bytesAt s (bytes a n)
 
 -- what an event shows of the input: CODESTREAM and AUX_DATA so many bytes from a place on, any other none
-abbrev pub payload : Event → Payload
-payload (E.Kind k) = none
-payload E.NoMoreAux = none
+abbrev pub payload : ParseEvent → Payload
+payload (E.BitstreamKind k) = none
+payload E.NoMoreAuxBox = none
 payload (E.Codestream a n) = bytes a n
-payload (E.AuxStart t b e) = none
-payload (E.AuxData t a n) = bytes a n
-payload (E.AuxEnd t) = none
+payload (E.AuxBoxStart t b e) = none
+payload (E.AuxBoxData t a n) = bytes a n
+payload (E.AuxBoxEnd t) = none
 
 -- the payload that an event shows; an empty part if it lies outside
-abbrev pub payloadOf : List ℕ → Event → List ℕ
+abbrev pub payloadOf : List ℕ → ParseEvent → List ℕ
 payloadOf s e = bytesAt s (payload e)

@@ -4,8 +4,8 @@ ghost use Rattle.jxl_container.specs.Record.{at, fresh, impossible, kind
 
 pub mod parse;
 
-pub use jxl_headers::Left;
-pub use jxl_headers::Refusal;
+pub use jxl_headers::BoxRefusal;
+pub use jxl_headers::BytesLeft;
 pub use jxl_headers::box_header;
 pub use jxl_headers::consts;
 
@@ -30,12 +30,12 @@ pub enum JxlpIndexState {
 }
 
 // The same reach, made anew field by field: a copy takes the unused bytes along, which costs more than the step itself.
-fn anew(left: Left) -> Left
+fn anew(left: BytesLeft) -> BytesLeft
     ensures { λ r. ⌜ r ≡ left ⌝ }
 {
     match left {
-        Left::ToEnd => Left::ToEnd,
-        Left::Bytes(m) => Left::Bytes(m),
+        BytesLeft::ToEnd => BytesLeft::ToEnd,
+        BytesLeft::Bytes(m) => BytesLeft::Bytes(m),
     }
 }
 
@@ -70,22 +70,22 @@ pub enum DetectState {
     WaitingSignature,
     WaitingBoxHeader,
     // The 4 bytes of a `jxlp` index; the payload's size counts them.
-    WaitingJxlpIndex(Left),
+    WaitingJxlpIndex(BytesLeft),
     // The 4 bytes of a `brob`'s inner type; the payload's size counts them.
-    WaitingInnerType(Left),
+    WaitingInnerType(BytesLeft),
     InAuxBox {
         ty: u32,
-        left: Left,
+        bytes_left: BytesLeft,
     },
     InCodestream {
         kind: BitstreamKind,
-        left: Left,
+        bytes_left: BytesLeft,
         pending_no_more_aux_box: bool,
     },
     // A refusal stays, and the kind stays what it was.
     Refused {
         kind: BitstreamKind,
-        refusal: Refusal,
+        refusal: BoxRefusal,
     },
 }
 
@@ -129,19 +129,22 @@ impl ContainerParser {
             DetectState::WaitingInnerType(left) => {
                 ContainerParser::at(DetectState::WaitingInnerType(anew(left)), jxlp)
             }
-            DetectState::InAuxBox { ty, left } => {
+            DetectState::InAuxBox {
+                ty,
+                bytes_left: left,
+            } => {
                 let l = anew(left);
-                ContainerParser::at(DetectState::InAuxBox { ty, left: l }, jxlp)
+                ContainerParser::at(DetectState::InAuxBox { ty, bytes_left: l }, jxlp)
             }
             DetectState::InCodestream {
                 kind,
-                left,
+                bytes_left: left,
                 pending_no_more_aux_box,
             } => {
                 let l = anew(left);
                 let anew = DetectState::InCodestream {
                     kind,
-                    left: l,
+                    bytes_left: l,
                     pending_no_more_aux_box,
                 };
                 ContainerParser::at(anew, jxlp)
@@ -162,10 +165,13 @@ impl ContainerParser {
             DetectState::WaitingBoxHeader => BitstreamKind::Container,
             DetectState::WaitingJxlpIndex(_) => BitstreamKind::Container,
             DetectState::WaitingInnerType(_) => BitstreamKind::Container,
-            DetectState::InAuxBox { ty: _, left: _ } => BitstreamKind::Container,
+            DetectState::InAuxBox {
+                ty: _,
+                bytes_left: _,
+            } => BitstreamKind::Container,
             DetectState::InCodestream {
                 kind,
-                left: _,
+                bytes_left: _,
                 pending_no_more_aux_box: _,
             } => kind,
             DetectState::Refused { kind, refusal: _ } => kind,
@@ -195,10 +201,13 @@ impl ContainerParser {
             } => false,
             DetectState::WaitingSignature => jxlp.over_index(),
             DetectState::WaitingBoxHeader => jxlp.over_index(),
-            DetectState::InAuxBox { ty: _, left: _ } => jxlp.over_index(),
+            DetectState::InAuxBox {
+                ty: _,
+                bytes_left: _,
+            } => jxlp.over_index(),
             DetectState::InCodestream {
                 kind: _,
-                left: _,
+                bytes_left: _,
                 pending_no_more_aux_box: _,
             } => jxlp.over_index(),
         }

@@ -4,8 +4,8 @@ use crate::BitstreamKind;
 use crate::ContainerParser;
 use crate::DetectState;
 use crate::JxlpIndexState;
-use jxl_headers::Left;
-use jxl_headers::Refusal;
+use jxl_headers::BoxRefusal;
+use jxl_headers::BytesLeft;
 use jxl_headers::box_header;
 use jxl_headers::box_header::HeaderParseResult;
 use jxl_headers::consts;
@@ -23,13 +23,26 @@ ghost use Rattle.jxl_headers.specs.Header.{headerOf};
 ghost use Rattle.jxl_container.specs.Step as Spec;
 
 // What a step shows. A payload is named by its place and length in the step's input.
-pub enum Event {
-    Kind(BitstreamKind),
-    NoMoreAux,
-    Codestream { at: usize, len: usize },
-    AuxStart { ty: u32, brotli: bool, to_end: bool },
-    AuxData { ty: u32, at: usize, len: usize },
-    AuxEnd { ty: u32 },
+pub enum ParseEvent {
+    BitstreamKind(BitstreamKind),
+    NoMoreAuxBox,
+    Codestream {
+        at: usize,
+        len: usize,
+    },
+    AuxBoxStart {
+        ty: u32,
+        brotli_compressed: bool,
+        last_box: bool,
+    },
+    AuxBoxData {
+        ty: u32,
+        at: usize,
+        len: usize,
+    },
+    AuxBoxEnd {
+        ty: u32,
+    },
 }
 
 // A step's answer. The next record and the bytes consumed come first in every case, so that the compiler copies no padding.
@@ -37,7 +50,7 @@ pub enum Step {
     Shown {
         next: ContainerParser,
         consumed: usize,
-        event: Event,
+        event: ParseEvent,
     },
     Want {
         next: ContainerParser,
@@ -46,12 +59,12 @@ pub enum Step {
     Refused {
         next: ContainerParser,
         consumed: usize,
-        refusal: Refusal,
+        refusal: BoxRefusal,
     },
 }
 
 // A refusal: the parser is refused from now on, and its kind stays what it was.
-fn refuse(refusal: Refusal, p: ContainerParser, consumed: usize) -> Step
+fn refuse(refusal: BoxRefusal, p: ContainerParser, consumed: usize) -> Step
     ensures { λ r. ⌜ Spec.told r ≡ Spec.refuse refusal p consumed ⌝ }
 {
     let kind = p.kind();
@@ -70,7 +83,7 @@ fn signature_step(jxlp: JxlpIndexState, s: &[u8]) -> Step
     match consts::which_signature(s) {
         Signature::Bare => kind_step(BitstreamKind::BareCodestream, jxlp),
         Signature::Container => Step::Shown {
-            event: Event::Kind(BitstreamKind::Container),
+            event: ParseEvent::BitstreamKind(BitstreamKind::Container),
             next: ContainerParser::at(DetectState::WaitingBoxHeader, jxlp),
             consumed: 12,
         },
@@ -87,8 +100,8 @@ fn kind_step(kind: BitstreamKind, jxlp: JxlpIndexState) -> Step
     ensures { λ r. ⌜ Spec.told r ≡ Spec.bareStep kind jxlp ⌝ }
 {
     Step::Shown {
-        event: Event::Kind(kind),
-        next: in_codestream(kind, Left::ToEnd, true, jxlp),
+        event: ParseEvent::BitstreamKind(kind),
+        next: in_codestream(kind, BytesLeft::ToEnd, true, jxlp),
         consumed: 0,
     }
 }
@@ -96,7 +109,7 @@ fn kind_step(kind: BitstreamKind, jxlp: JxlpIndexState) -> Step
 // A record inside a codestream.
 fn in_codestream(
     kind: BitstreamKind,
-    left: Left,
+    left: BytesLeft,
     pending: bool,
     jxlp: JxlpIndexState,
 ) -> ContainerParser
@@ -104,35 +117,41 @@ fn in_codestream(
 {
     let state = DetectState::InCodestream {
         kind,
-        left,
+        bytes_left: left,
         pending_no_more_aux_box: pending,
     };
     ContainerParser::at(state, jxlp)
 }
 
 // The `n` bytes of input at `at`, at least one, inside a codestream.
-fn code_part(jxlp: JxlpIndexState, kind: BitstreamKind, left: Left, at: usize, n: usize) -> Step
+fn code_part(
+    jxlp: JxlpIndexState,
+    kind: BitstreamKind,
+    left: BytesLeft,
+    at: usize,
+    n: usize,
+) -> Step
     requires { ⌜ at + n < 2 ^ 64 ⌝ }
     ensures { λ r. ⌜ Spec.told r ≡ Spec.ahead at (Spec.codePart jxlp kind left n) ⌝ }
 {
     match left {
-        Left::ToEnd => Step::Shown {
-            event: Event::Codestream { at, len: n },
-            next: in_codestream(kind, Left::ToEnd, false, jxlp),
+        BytesLeft::ToEnd => Step::Shown {
+            event: ParseEvent::Codestream { at, len: n },
+            next: in_codestream(kind, BytesLeft::ToEnd, false, jxlp),
             consumed: at + n,
         },
-        Left::Bytes(m) => {
+        BytesLeft::Bytes(m) => {
             if m <= n as u64 {
                 let len = m as usize;
                 Step::Shown {
-                    event: Event::Codestream { at, len },
+                    event: ParseEvent::Codestream { at, len },
                     next: ContainerParser::at(DetectState::WaitingBoxHeader, jxlp),
                     consumed: at + len,
                 }
             } else {
                 Step::Shown {
-                    event: Event::Codestream { at, len: n },
-                    next: in_codestream(kind, Left::Bytes(m - n as u64), false, jxlp),
+                    event: ParseEvent::Codestream { at, len: n },
+                    next: in_codestream(kind, BytesLeft::Bytes(m - n as u64), false, jxlp),
                     consumed: at + n,
                 }
             }
@@ -144,7 +163,7 @@ fn code_part(jxlp: JxlpIndexState, kind: BitstreamKind, left: Left, at: usize, n
 fn code_step(
     jxlp: JxlpIndexState,
     kind: BitstreamKind,
-    left: Left,
+    left: BytesLeft,
     pending: bool,
     s: &[u8],
     at: usize,
@@ -160,7 +179,7 @@ fn code_step(
     }
     if pending {
         return Step::Shown {
-            event: Event::NoMoreAux,
+            event: ParseEvent::NoMoreAuxBox,
             next: in_codestream(kind, left, false, jxlp),
             consumed: at,
         };
@@ -169,36 +188,36 @@ fn code_step(
 }
 
 // Inside a side box, with `n` bytes of input, at least one.
-fn aux_part(jxlp: JxlpIndexState, ty: u32, left: Left, n: usize) -> Step
+fn aux_part(jxlp: JxlpIndexState, ty: u32, left: BytesLeft, n: usize) -> Step
     ensures { λ r. ⌜ Spec.told r ≡ Spec.auxPart jxlp ty left n ⌝ }
 {
     match left {
-        Left::ToEnd => Step::Shown {
-            event: Event::AuxData { ty, at: 0, len: n },
+        BytesLeft::ToEnd => Step::Shown {
+            event: ParseEvent::AuxBoxData { ty, at: 0, len: n },
             next: ContainerParser::at(
                 DetectState::InAuxBox {
                     ty,
-                    left: Left::ToEnd,
+                    bytes_left: BytesLeft::ToEnd,
                 },
                 jxlp,
             ),
             consumed: n,
         },
-        Left::Bytes(m) => {
+        BytesLeft::Bytes(m) => {
             if m == 0 {
                 return Step::Shown {
-                    event: Event::AuxEnd { ty },
+                    event: ParseEvent::AuxBoxEnd { ty },
                     next: ContainerParser::at(DetectState::WaitingBoxHeader, jxlp),
                     consumed: 0,
                 };
             }
             let len = least(m, n);
             Step::Shown {
-                event: Event::AuxData { ty, at: 0, len },
+                event: ParseEvent::AuxBoxData { ty, at: 0, len },
                 next: ContainerParser::at(
                     DetectState::InAuxBox {
                         ty,
-                        left: Left::Bytes(m - len as u64),
+                        bytes_left: BytesLeft::Bytes(m - len as u64),
                     },
                     jxlp,
                 ),
@@ -227,7 +246,7 @@ fn row(word: u32, i: u32) -> JxlpIndexState
 }
 
 // A `jxlp` payload at `at`, whose index must be `i`.
-fn index_step(i: u32, left: Left, s: &[u8], at: usize) -> Step
+fn index_step(i: u32, left: BytesLeft, s: &[u8], at: usize) -> Step
     requires { ⌜ at ≤ length (now s) ⌝ }
     ensures { λ r. ⌜ Spec.told r ≡ Spec.ahead at (Spec.indexStep i left (drop at (now (s .entry)))) ⌝ }
 {
@@ -249,7 +268,7 @@ fn index_step(i: u32, left: Left, s: &[u8], at: usize) -> Step
             at + 4,
         );
     }
-    refuse(Refusal::InvalidBox, waiting, at + 4)
+    refuse(BoxRefusal::InvalidBox, waiting, at + 4)
 }
 
 // Whether the type may not stand inside a `brob`.
@@ -266,7 +285,7 @@ fn is_reserved(ty: u32) -> bool
 }
 
 // A `brob` payload at `at`.
-fn inner_step(jxlp: JxlpIndexState, left: Left, s: &[u8], at: usize) -> Step
+fn inner_step(jxlp: JxlpIndexState, left: BytesLeft, s: &[u8], at: usize) -> Step
     requires { ⌜ at ≤ length (now s) ⌝ }
     ensures { λ r. ⌜ Spec.told r ≡ Spec.ahead at (Spec.innerStep jxlp left (drop at (now (s .entry)))) ⌝ }
 {
@@ -279,17 +298,17 @@ fn inner_step(jxlp: JxlpIndexState, left: Left, s: &[u8], at: usize) -> Step
     }
     let ty = box_header::be32_at(s, at);
     if is_reserved(ty) {
-        return refuse(Refusal::ValidationFailed, waiting, at + 4);
+        return refuse(BoxRefusal::ValidationFailed, waiting, at + 4);
     }
     let state = DetectState::InAuxBox {
         ty,
-        left: left.less(4),
+        bytes_left: left.less(4),
     };
     Step::Shown {
-        event: Event::AuxStart {
+        event: ParseEvent::AuxBoxStart {
             ty,
-            brotli: true,
-            to_end: left.to_end(),
+            brotli_compressed: true,
+            last_box: left.to_end(),
         },
         next: ContainerParser::at(state, jxlp),
         consumed: at + 4,
@@ -301,14 +320,14 @@ fn refuse_box(jxlp: JxlpIndexState, at: usize) -> Step
     ensures { λ r. ⌜ Spec.told r ≡ Spec.ahead at (Spec.refuseBox jxlp) ⌝ }
 {
     refuse(
-        Refusal::InvalidBox,
+        BoxRefusal::InvalidBox,
         ContainerParser::at(DetectState::WaitingBoxHeader, jxlp),
         at,
     )
 }
 
 // A `jxlc` payload at `at`.
-fn jxlc_step(jxlp: JxlpIndexState, left: Left, s: &[u8], at: usize) -> Step
+fn jxlc_step(jxlp: JxlpIndexState, left: BytesLeft, s: &[u8], at: usize) -> Step
     requires { ⌜ at ≤ length (now s) ⌝ }
     ensures { λ r. ⌜ Spec.told r ≡ Spec.ahead at (Spec.jxlcStep jxlp left (drop at (now (s .entry)))) ⌝ }
 {
@@ -328,7 +347,7 @@ fn jxlc_step(jxlp: JxlpIndexState, left: Left, s: &[u8], at: usize) -> Step
 }
 
 // A `jxlp` payload of 4 bytes or more at `at`: its place in the row.
-fn jxlp_next(jxlp: JxlpIndexState, left: Left, s: &[u8], at: usize) -> Step
+fn jxlp_next(jxlp: JxlpIndexState, left: BytesLeft, s: &[u8], at: usize) -> Step
     requires { ⌜ (at ≤ length (now s)) × (overIndex jxlp ≡ false) ⌝ }
     ensures { λ r. ⌜ Spec.told r ≡ Spec.ahead at (Spec.jxlpNext jxlp left (drop at (now (s .entry)))) ⌝ }
 {
@@ -341,7 +360,7 @@ fn jxlp_next(jxlp: JxlpIndexState, left: Left, s: &[u8], at: usize) -> Step
 }
 
 // A `jxlp` box behind its header, its size looked at before its place in the row.
-fn jxlp_step(jxlp: JxlpIndexState, left: Left, s: &[u8], at: usize) -> Step
+fn jxlp_step(jxlp: JxlpIndexState, left: BytesLeft, s: &[u8], at: usize) -> Step
     requires { ⌜ (at ≤ length (now s)) × (overIndex jxlp ≡ false) ⌝ }
     ensures { λ r. ⌜ Spec.told r ≡ Spec.ahead at (Spec.jxlpStep jxlp left (drop at (now (s .entry)))) ⌝ }
 {
@@ -352,7 +371,7 @@ fn jxlp_step(jxlp: JxlpIndexState, left: Left, s: &[u8], at: usize) -> Step
 }
 
 // A `brob` box behind its header.
-fn brob_step(jxlp: JxlpIndexState, left: Left, s: &[u8], at: usize) -> Step
+fn brob_step(jxlp: JxlpIndexState, left: BytesLeft, s: &[u8], at: usize) -> Step
     requires { ⌜ at ≤ length (now s) ⌝ }
     ensures { λ r. ⌜ Spec.told r ≡ Spec.ahead at (Spec.brobStep jxlp left (drop at (now (s .entry)))) ⌝ }
 {
@@ -363,7 +382,7 @@ fn brob_step(jxlp: JxlpIndexState, left: Left, s: &[u8], at: usize) -> Step
 }
 
 // A box of type `ty` behind its header.
-fn box_step(jxlp: JxlpIndexState, ty: u32, left: Left, s: &[u8], at: usize) -> Step
+fn box_step(jxlp: JxlpIndexState, ty: u32, left: BytesLeft, s: &[u8], at: usize) -> Step
     requires { ⌜ (at ≤ length (now s)) × (overIndex jxlp ≡ false) ⌝ }
     ensures { λ r. ⌜ Spec.told r ≡ Spec.ahead at (Spec.boxStep jxlp ty left (drop at (now (s .entry)))) ⌝ }
 {
@@ -377,12 +396,18 @@ fn box_step(jxlp: JxlpIndexState, ty: u32, left: Left, s: &[u8], at: usize) -> S
         return brob_step(jxlp, left, s, at);
     }
     Step::Shown {
-        event: Event::AuxStart {
+        event: ParseEvent::AuxBoxStart {
             ty,
-            brotli: false,
-            to_end: left.to_end(),
+            brotli_compressed: false,
+            last_box: left.to_end(),
         },
-        next: ContainerParser::at(DetectState::InAuxBox { ty, left }, jxlp),
+        next: ContainerParser::at(
+            DetectState::InAuxBox {
+                ty,
+                bytes_left: left,
+            },
+            jxlp,
+        ),
         consumed: at,
     }
 }
@@ -434,10 +459,13 @@ fn state_step(p: ContainerParser, s: &[u8]) -> Step
         DetectState::WaitingBoxHeader => header_step(jxlp, s),
         DetectState::WaitingJxlpIndex(left) => index_step(awaited(jxlp), left, s, 0),
         DetectState::WaitingInnerType(left) => inner_step(jxlp, left, s, 0),
-        DetectState::InAuxBox { ty, left } => aux_part(jxlp, ty, left, s.len()),
+        DetectState::InAuxBox {
+            ty,
+            bytes_left: left,
+        } => aux_part(jxlp, ty, left, s.len()),
         DetectState::InCodestream {
             kind,
-            left,
+            bytes_left: left,
             pending_no_more_aux_box,
         } => code_step(jxlp, kind, left, pending_no_more_aux_box, s, 0),
         DetectState::Refused { kind: _, refusal } => Step::Refused {
@@ -470,13 +498,16 @@ fn empty_step(p: ContainerParser) -> Step
             next: p,
             consumed: 0,
         },
-        DetectState::InAuxBox { ty: _, left: _ } => Step::Want {
+        DetectState::InAuxBox {
+            ty: _,
+            bytes_left: _,
+        } => Step::Want {
             next: p,
             consumed: 0,
         },
         DetectState::InCodestream {
             kind: _,
-            left: _,
+            bytes_left: _,
             pending_no_more_aux_box: _,
         } => Step::Want {
             next: p,
@@ -500,7 +531,7 @@ impl ContainerParser {
             return empty_step(p);
         }
         if p.is_impossible() {
-            return refuse(Refusal::InvalidBox, p, 0);
+            return refuse(BoxRefusal::InvalidBox, p, 0);
         }
         state_step(p, s)
     }
@@ -522,19 +553,19 @@ fn part(s: &[u8], at: usize, len: usize) -> &[u8]
 }
 
 // The part of a step's input that its event shows; an empty part if the event shows none, or if it lies outside.
-pub fn payload(s: &[u8], event: Event) -> &[u8]
+pub fn payload(s: &[u8], event: ParseEvent) -> &[u8]
     ensures { λ r. ⌜ now r ≡ Spec.payloadOf (now (s .entry)) event ⌝ }
 {
     match event {
-        Event::Codestream { at, len } => part(s, at, len),
-        Event::AuxData { ty: _, at, len } => part(s, at, len),
-        Event::Kind(_) => &s[0..0],
-        Event::NoMoreAux => &s[0..0],
-        Event::AuxStart {
+        ParseEvent::Codestream { at, len } => part(s, at, len),
+        ParseEvent::AuxBoxData { ty: _, at, len } => part(s, at, len),
+        ParseEvent::BitstreamKind(_) => &s[0..0],
+        ParseEvent::NoMoreAuxBox => &s[0..0],
+        ParseEvent::AuxBoxStart {
             ty: _,
-            brotli: _,
-            to_end: _,
+            brotli_compressed: _,
+            last_box: _,
         } => &s[0..0],
-        Event::AuxEnd { ty: _ } => &s[0..0],
+        ParseEvent::AuxBoxEnd { ty: _ } => &s[0..0],
     }
 }

@@ -2,8 +2,8 @@
 -- Assumes nothing.
 use mathlib.Core.Path.{_≡_, refl, ap}
 use Prim.Native.Nat.{ℕ}
-use Rattle.jxl_bits.specs.declared.Refusal.the-variants.{UnexpectedEof, NonZeroPadding, InvalidFloat, InvalidEnum, Width, TooLong}
-use Rattle.jxl_bits.specs.declared.Refusal.{Refusal}
+use Rattle.jxl_bits.specs.declared.FieldRefusal.the-variants.{UnexpectedEof, NonZeroPadding, InvalidFloat, InvalidEnum, Width, TooLong}
+use Rattle.jxl_bits.specs.declared.FieldRefusal.{FieldRefusal}
 use Rattle.jxl_bits.proofs.Unique.{unique, renamed, back, oneU32}
 use Rattle.jxl_fields.specs.Fields.{u32, u64, enumOf, f16}
 use Rattle.jxl_fields.specs.Theorems.{OneReadU32, OneReadU64, OneReadEnum, OneReadF16AsF32}
@@ -17,7 +17,7 @@ backU64 : (r : ReadU64) → back U64.Value U64.Refused (toldU64 r) ≡ r
 backU64 (U64.Value v at) = refl
 backU64 (U64.Refused r at) = ap (λ x. U64.Refused x at) (renamed r)
 
-abbrev refusedF16 : Refusal → ℕ → ReadF16
+abbrev refusedF16 : FieldRefusal → ℕ → ReadF16
 refusedF16 UnexpectedEof at = H.UnexpectedEof at
 refusedF16 NonZeroPadding at = H.TooLong at
 refusedF16 InvalidFloat at = H.InvalidFloat at

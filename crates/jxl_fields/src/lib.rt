@@ -1,7 +1,7 @@
 // The fields made of bits: U32, U64, Enum, F16. The rules are in `specs/Fields.antt`.
+use jxl_bits::FieldRefusal;
 use jxl_bits::Moved;
 use jxl_bits::ReadU32;
-use jxl_bits::Refusal;
 use jxl_bits::begin;
 use jxl_half::Widened;
 ghost use mathlib.Core.Path.{_≡_};
@@ -18,7 +18,7 @@ ghost use Rattle.jxl_fields.specs.Told.{toldU64, toldF16};
 // Each answer holds the position after the call, refusals too.
 pub enum ReadU64 {
     Value(u64, usize),
-    Refused(Refusal, usize),
+    Refused(FieldRefusal, usize),
 }
 
 pub enum ReadF16 {
@@ -74,11 +74,11 @@ fn select(s: &[u8], at: usize, widths: [usize; 4], offsets: [u32; 4]) -> ReadU32
     ensures { λ r. ⌜ toldU32 r ≡ selectOf widths offsets (now (s .entry)) at ⌝ }
 {
     let ReadU32::Value(k, next) = part(s, at, 2) else {
-        return ReadU32::Refused(Refusal::UnexpectedEof, at);
+        return ReadU32::Refused(FieldRefusal::UnexpectedEof, at);
     };
     let i = k as usize;
     let ReadU32::Value(x, then) = part(s, next, widths[i]) else {
-        return ReadU32::Refused(Refusal::UnexpectedEof, next);
+        return ReadU32::Refused(FieldRefusal::UnexpectedEof, next);
     };
     let offset = offsets[i];
     ReadU32::Value(std::num::wrapping_add_u32(x, offset), then)
@@ -108,7 +108,7 @@ fn plus(s: &[u8], at: usize, n: usize, offset: u64) -> ReadU64
     ensures { λ r. ⌜ toldU64 r ≡ F.plus n offset (now (s .entry)) at ⌝ }
 {
     let ReadU32::Value(x, next) = part(s, at, n) else {
-        return ReadU64::Refused(Refusal::UnexpectedEof, at);
+        return ReadU64::Refused(FieldRefusal::UnexpectedEof, at);
     };
     ReadU64::Value(offset + (x as u64), next)
 }
@@ -120,13 +120,13 @@ fn last_chunk(s: &[u8], at: usize, value: u64) -> ReadU64
     ensures { λ r. ⌜ toldU64 r ≡ F.chunks (drop 6 F.places) value (now (s .entry)) at ⌝ }
 {
     let ReadU32::Value(flag, after) = part(s, at, 1) else {
-        return ReadU64::Refused(Refusal::UnexpectedEof, at);
+        return ReadU64::Refused(FieldRefusal::UnexpectedEof, at);
     };
     if flag != 1 {
         return ReadU64::Value(value, after);
     }
     let ReadU32::Value(x, next) = part(s, after, 4) else {
-        return ReadU64::Refused(Refusal::UnexpectedEof, after);
+        return ReadU64::Refused(FieldRefusal::UnexpectedEof, after);
     };
     ReadU64::Value(value | (x as u64) << 60, next)
 }
@@ -142,13 +142,13 @@ fn chunks(s: &[u8], at: usize, first: u64) -> ReadU64
     let mut i: u64 = 0;
     while i < 6 {
         let ReadU32::Value(flag, after) = part(s, p, 1) else {
-            return ReadU64::Refused(Refusal::UnexpectedEof, p);
+            return ReadU64::Refused(FieldRefusal::UnexpectedEof, p);
         };
         if flag != 1 {
             return ReadU64::Value(value, after);
         }
         let ReadU32::Value(x, next) = part(s, after, 8) else {
-            return ReadU64::Refused(Refusal::UnexpectedEof, after);
+            return ReadU64::Refused(FieldRefusal::UnexpectedEof, after);
         };
         value |= (x as u64) << (12 + 8 * i);
         p = next;
@@ -164,7 +164,7 @@ fn by_selector(s: &[u8], at: usize, selector: u32) -> ReadU64
 {
     if 2 < selector {
         let ReadU32::Value(first, next) = part(s, at, 12) else {
-            return ReadU64::Refused(Refusal::UnexpectedEof, at);
+            return ReadU64::Refused(FieldRefusal::UnexpectedEof, at);
         };
         return chunks(s, next, first as u64);
     }
@@ -182,10 +182,10 @@ pub fn read_u64(s: &[u8], at: usize) -> ReadU64
     ensures { λ r. ⌜ toldU64 r ≡ F.u64 (now (s .entry)) at ⌝ }
 {
     let Moved::To(p) = begin(s, at, false) else {
-        return ReadU64::Refused(Refusal::TooLong, at);
+        return ReadU64::Refused(FieldRefusal::TooLong, at);
     };
     let ReadU32::Value(selector, next) = part(s, p, 2) else {
-        return ReadU64::Refused(Refusal::UnexpectedEof, p);
+        return ReadU64::Refused(FieldRefusal::UnexpectedEof, p);
     };
     by_selector(s, next, selector)
 }
@@ -209,12 +209,12 @@ fn enum_value(s: &[u8], at: usize) -> ReadU32
     ensures { λ r. ⌜ toldU32 r ≡ F.select F.four (now (s .entry)) at ⌝ }
 {
     let ReadU32::Value(k, next) = part(s, at, 2) else {
-        return ReadU32::Refused(Refusal::UnexpectedEof, at);
+        return ReadU32::Refused(FieldRefusal::UnexpectedEof, at);
     };
     let width = if k < 2 { 0 } else { 2 * (k as usize) };
     let offset = if k < 3 { k } else { 18 };
     let ReadU32::Value(x, then) = part(s, next, width) else {
-        return ReadU32::Refused(Refusal::UnexpectedEof, next);
+        return ReadU32::Refused(FieldRefusal::UnexpectedEof, next);
     };
     ReadU32::Value(x + offset, then)
 }
@@ -224,7 +224,7 @@ pub fn read_enum(s: &[u8], at: usize, list: &[u32]) -> ReadU32
     ensures { λ r. ⌜ toldU32 r ≡ F.enumOf (now (list .entry)) (now (s .entry)) at ⌝ }
 {
     let Moved::To(p) = begin(s, at, false) else {
-        return ReadU32::Refused(Refusal::TooLong, at);
+        return ReadU32::Refused(FieldRefusal::TooLong, at);
     };
     match enum_value(s, p) {
         ReadU32::Refused(refusal, stop) => ReadU32::Refused(refusal, stop),
@@ -232,7 +232,7 @@ pub fn read_enum(s: &[u8], at: usize, list: &[u32]) -> ReadU32
             if listed(list, v) {
                 ReadU32::Value(v, next)
             } else {
-                ReadU32::Refused(Refusal::InvalidEnum(v), next)
+                ReadU32::Refused(FieldRefusal::InvalidEnum(v), next)
             }
         }
     }

@@ -25,15 +25,15 @@ use Rattle.jxl_headers.specs.declared.consts.Signature.{Signature}
 use Rattle.jxl_headers.specs.declared.consts.Signature.the-variants as G
 use Rattle.jxl_container.specs.declared.BitstreamKind.{BitstreamKind}
 use Rattle.jxl_container.specs.declared.BitstreamKind.the-variants as K
-use Rattle.jxl_headers.specs.declared.Left.{Left}
-use Rattle.jxl_headers.specs.declared.Left.the-variants.{ToEnd, Bytes}
+use Rattle.jxl_headers.specs.declared.BytesLeft.{BytesLeft}
+use Rattle.jxl_headers.specs.declared.BytesLeft.the-variants.{ToEnd, Bytes}
 use Rattle.jxl_container.specs.declared.JxlpIndexState.{JxlpIndexState}
 use Rattle.jxl_container.specs.declared.JxlpIndexState.the-variants.{Initial, SingleJxlc, Jxlp, JxlpFinished}
 use Rattle.jxl_container.specs.declared.DetectState.{DetectState}
 use Rattle.jxl_container.specs.declared.DetectState.the-variants as S
 use Rattle.jxl_container.specs.declared.ContainerParser.{ContainerParser}
-use Rattle.jxl_container.specs.declared.parse.Event.{Event}
-use Rattle.jxl_container.specs.declared.parse.Event.the-variants as E
+use Rattle.jxl_container.specs.declared.parse.ParseEvent.{ParseEvent}
+use Rattle.jxl_container.specs.declared.parse.ParseEvent.the-variants as E
 use Rattle.jxl_cuts.specs.Lawful.{Cut as AnyCut, same, grows, later, final}
 use Rattle.jxl_cuts.proofs.Ahead.{cut-ahead}
 use Rattle.jxl_files.specs.Parser.{parser}
@@ -59,7 +59,7 @@ step-any p [] i r e = step-empty p r ∙ sym e
 step-any p (x ∷ s) i r e = step-state p (x ∷ s) (omega arith) i
 
 module _ (j : JxlpIndexState) (o : overIndex j ≡ false) where
-  pub step-code : (k : BitstreamKind) (l : Left) (pending : Bool) (s : List ℕ) → stepOf (inCode k l pending j) s ≡ codeStep j k l pending s
+  pub step-code : (k : BitstreamKind) (l : BytesLeft) (pending : Bool) (s : List ℕ) → stepOf (inCode k l pending j) s ≡ codeStep j k l pending s
   step-code k l pending s = step-any (inCode k l pending j) s o refl (code-wants j k l [] pending (omega arith))
 
   pub step-header : (s : List ℕ) → stepOf (at S.WaitingBoxHeader j) s ≡ headerStep j s (headerOf s)
@@ -68,19 +68,19 @@ module _ (j : JxlpIndexState) (o : overIndex j ≡ false) where
   pub step-signature : (s : List ℕ) → stepOf (at S.WaitingSignature j) s ≡ signatureStep j (signatureOf s)
   step-signature s = step-any (at S.WaitingSignature j) s o refl (rw (is-short-bare [] refl refl refl))
 
-  pub step-inner : (l : Left) (s : List ℕ) → under 4 l ≡ false → stepOf (at (S.WaitingInnerType l) j) s ≡ innerStep j l s
+  pub step-inner : (l : BytesLeft) (s : List ℕ) → under 4 l ≡ false → stepOf (at (S.WaitingInnerType l) j) s ≡ innerStep j l s
   step-inner l s u = step-any (at (S.WaitingInnerType l) j) s (rw (o, u)) refl (inner-wants j l [] (omega arith))
 
-  pub step-aux : (t : ℕ) (l : Left) (s : List ℕ) → 0 < length s → stepOf (at (S.InAuxBox t l) j) s ≡ auxPart j t l (length s)
+  pub step-aux : (t : ℕ) (l : BytesLeft) (s : List ℕ) → 0 < length s → stepOf (at (S.InAuxBox t l) j) s ≡ auxPart j t l (length s)
   step-aux t l s h = step-state (at (S.InAuxBox t l) j) s h o
 
-pub step-index : (i : ℕ) (l : Left) (s : List ℕ) → i ≤ 0x80000000 → under 4 l ≡ false → stepOf (at (S.WaitingJxlpIndex l) (Jxlp i)) s ≡ indexStep i l s
+pub step-index : (i : ℕ) (l : BytesLeft) (s : List ℕ) → i ≤ 0x80000000 → under 4 l ≡ false → stepOf (at (S.WaitingJxlpIndex l) (Jxlp i)) s ≡ indexStep i l s
 step-index i l s h u = step-any (at (S.WaitingJxlpIndex l) (Jxlp i)) s (rw (le-ltb 0x80000000 i h, u)) refl (index-wants i l [] (omega arith))
 
 -- inside a codestream, with a byte there
 module _ (j : JxlpIndexState) (o : overIndex j ≡ false) (k : BitstreamKind) where
   -- what a codestream shows of what comes then
-  code-on : (l : Left) (b : List ℕ) → 0 < length b → stepOf (inCode k l false j) b ≡ codePart j k l (length b)
+  code-on : (l : BytesLeft) (b : List ℕ) → 0 < length b → stepOf (inCode k l false j) b ≡ codePart j k l (length b)
   code-on l b h = step-code j o k l false b ∙ code-shows j k l b h
 
   part-to-end : (a b : List ℕ) → Cut a b (codePart j k ToEnd (length (a ++ b))) (codePart j k ToEnd (length a))
@@ -116,11 +116,11 @@ module _ (j : JxlpIndexState) (o : overIndex j ≡ false) (k : BitstreamKind) wh
           code-on (Bytes (m - length a)) (z ∷ b) (omega arith) ∙ rw (lt-leb (m - length a) (length (z ∷ b)) more) in
           rw (e, q, left, long) (grows refl (code-joins (length a)) on refl)
 
-  cut-part : (l : Left) (a b : List ℕ) → Cut a b (codePart j k l (length (a ++ b))) (codePart j k l (length a))
+  cut-part : (l : BytesLeft) (a b : List ℕ) → Cut a b (codePart j k l (length (a ++ b))) (codePart j k l (length a))
   cut-part ToEnd a b = part-to-end a b
   cut-part (Bytes m) a b = part-bounded m a b (leb m (length a)) refl
 
-  cut-code : (l : Left) (pending : Bool) (a b : List ℕ) → Cut a b (codeStep j k l pending (a ++ b)) (codeStep j k l pending a)
+  cut-code : (l : BytesLeft) (pending : Bool) (a b : List ℕ) → Cut a b (codeStep j k l pending (a ++ b)) (codeStep j k l pending a)
   cut-code l pending [] b =
       rw (code-wants j k l [] pending (omega arith))
       (later (sym (ahead-zero (stepOf (inCode k l pending j) b) ∙ step-code j o k l pending b)))
@@ -155,7 +155,7 @@ module _ (j : JxlpIndexState) (o : overIndex j ≡ false) (t : ℕ) where
       let here : min m (length a) ≡ length a = omega arith in
       let some : m - length a ≡ 0 → ⊥ = λ e. omega arith in
       let on : stepOf (at (S.InAuxBox t (Bytes (m - length a))) j) (y ∷ b)
-      ≡ shows (E.AuxData t 0 (min (m - length a) (length (y ∷ b)))) (at (S.InAuxBox t (Bytes (m - length a - min (m - length a) (length (y ∷ b))))) j) (min (m - length a) (length (y ∷ b))) =
+      ≡ shows (E.AuxBoxData t 0 (min (m - length a) (length (y ∷ b)))) (at (S.InAuxBox t (Bytes (m - length a - min (m - length a) (length (y ∷ b))))) j) (min (m - length a) (length (y ∷ b))) =
       step-aux j o t (Bytes (m - length a)) (y ∷ b) (omega arith) ∙ rw (ne-eqb (m - length a) 0 some) in
       rw (ne-eqb m 0 z, here, long, min-split m (length a) (length (y ∷ b)) (omega arith), sub-split m (length a) (min (m - length a) (length (y ∷ b))))
       (grows refl (aux-joins t (length a)) on refl)
@@ -164,7 +164,7 @@ module _ (j : JxlpIndexState) (o : overIndex j ≡ false) (t : ℕ) where
   side-size m a b true e = rw e (same refl)
   side-size m a b false e = side-bounded m a b (eqb-false m 0 e) (leb m (length a)) refl
 
-  cut-side : (l : Left) (a b : List ℕ) → Cut a b (auxPart j t l (length (a ++ b))) (auxPart j t l (length a))
+  cut-side : (l : BytesLeft) (a b : List ℕ) → Cut a b (auxPart j t l (length (a ++ b))) (auxPart j t l (length a))
   cut-side ToEnd a b = side-to-end a b
   cut-side (Bytes m) a b = side-size m a b (eqb m 0) refl
 
@@ -180,7 +180,7 @@ row-right w i h = go (leb 0x80000000 w)
     go false = lt-leb 0x80000000 i h
 
 -- a `jxlp` index
-module _ (i : ℕ) (l : Left) (h : i ≤ 0x80000000) (u : under 4 l ≡ false) where
+module _ (i : ℕ) (l : BytesLeft) (h : i ≤ 0x80000000) (u : under 4 l ≡ false) where
   index-whole : (a b : List ℕ) → 4 ≤ length a → (t : Bool) → eqb (be32 a 0 % 0x80000000) i ≡ t → Cut a b (indexStep i l (a ++ b)) (indexStep i l a)
   index-whole a b f true e =
       let word : be32 (a ++ b) 0 ≡ be32 a 0 = be32-more a b 0 (omega arith) in
@@ -205,7 +205,7 @@ module _ (i : ℕ) (l : Left) (h : i ≤ 0x80000000) (u : under 4 l ≡ false) w
       go false e = index-whole a b (ltb-false (length a) 4 e) (eqb (be32 a 0 % 0x80000000) i) refl
 
 -- a `brob` inner type
-module _ (j : JxlpIndexState) (o : overIndex j ≡ false) (l : Left) (u : under 4 l ≡ false) where
+module _ (j : JxlpIndexState) (o : overIndex j ≡ false) (l : BytesLeft) (u : under 4 l ≡ false) where
   inner-whole : (a b : List ℕ) → 4 ≤ length a → (t : Bool) → reserved (be32 a 0) ≡ t → Cut a b (innerStep j l (a ++ b)) (innerStep j l a)
   inner-whole a b f true e =
       let word : be32 (a ++ b) 0 ≡ be32 a 0 = be32-more a b 0 (omega arith) in
@@ -226,7 +226,7 @@ module _ (j : JxlpIndexState) (o : overIndex j ≡ false) (l : Left) (u : under 
       go false e = inner-whole a b (ltb-false (length a) 4 e) (reserved (be32 a 0)) refl
 
 -- a box behind its header
-module _ (j : JxlpIndexState) (o : overIndex j ≡ false) (l : Left) where
+module _ (j : JxlpIndexState) (o : overIndex j ≡ false) (l : BytesLeft) where
   cut-jxlc : (i : JxlpIndexState) → i ≡ j → (a b : List ℕ) → Cut a b (jxlcStep i l (a ++ b)) (jxlcStep i l a)
   cut-jxlc Initial q a b = cut-code SingleJxlc refl K.Container l (toEnd l) a b
   cut-jxlc SingleJxlc q a b = final refl

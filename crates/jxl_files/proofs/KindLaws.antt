@@ -22,15 +22,15 @@ use Rattle.jxl_headers.specs.declared.consts.Signature.{Signature}
 use Rattle.jxl_headers.specs.declared.consts.Signature.the-variants as G
 use Rattle.jxl_container.specs.declared.BitstreamKind.{BitstreamKind}
 use Rattle.jxl_container.specs.declared.BitstreamKind.the-variants as K
-use Rattle.jxl_headers.specs.declared.Left.{Left}
-use Rattle.jxl_headers.specs.declared.Left.the-variants.{ToEnd, Bytes}
+use Rattle.jxl_headers.specs.declared.BytesLeft.{BytesLeft}
+use Rattle.jxl_headers.specs.declared.BytesLeft.the-variants.{ToEnd, Bytes}
 use Rattle.jxl_container.specs.declared.JxlpIndexState.{JxlpIndexState}
 use Rattle.jxl_container.specs.declared.JxlpIndexState.the-variants.{Initial, SingleJxlc, Jxlp, JxlpFinished}
 use Rattle.jxl_container.specs.declared.DetectState.{DetectState}
 use Rattle.jxl_container.specs.declared.DetectState.the-variants as S
 use Rattle.jxl_container.specs.declared.ContainerParser.{ContainerParser}
-use Rattle.jxl_container.specs.declared.parse.Event.{Event}
-use Rattle.jxl_container.specs.declared.parse.Event.the-variants as E
+use Rattle.jxl_container.specs.declared.parse.ParseEvent.{ParseEvent}
+use Rattle.jxl_container.specs.declared.parse.ParseEvent.the-variants as E
 use Rattle.jxl_files.specs.Joined.{codeAt, auxAt}
 use Rattle.jxl_files.specs.Feeding.{before, joined, Seen, events, feeding, bytesOf, Takes, more, waits, ends}
 use Rattle.jxl_files.specs.Theorems.{kindTold, KindIsTold, KindOfAFile, RefusalKeepsKind}
@@ -39,7 +39,7 @@ use Rattle.jxl_files.proofs.Taking.{takes}
 use Rattle.jxl_files.proofs.Theorems.{whole-feed, every-cut, every-cut-of-a-file}
 
 -- only a container's codestream payload ends
-abbrev MayEnd : BitstreamKind → Left → Type 0
+abbrev MayEnd : BitstreamKind → BytesLeft → Type 0
 MayEnd k ToEnd = Unit {0}
 MayEnd k (Bytes m) = K.Container ≡ k
 
@@ -79,7 +79,7 @@ left-ahead n (refuses r q c) = refl
 stays-ahead : (n : ℕ) (t : Told) → Stays K.Container t → Stays K.Container (ahead n t)
 stays-ahead n t i = subst (λ (q : ContainerParser). Of K.Container (q .state)) (left-ahead n t) i
 
-stays-part : (j : JxlpIndexState) (k : BitstreamKind) (l : Left) (n : ℕ) → MayEnd k l → Stays k (codePart j k l n)
+stays-part : (j : JxlpIndexState) (k : BitstreamKind) (l : BytesLeft) (n : ℕ) → MayEnd k l → Stays k (codePart j k l n)
 stays-part j k ToEnd n f = (refl, tt)
 stays-part j k (Bytes m) n f = go (leb m n) refl
   where
@@ -87,17 +87,17 @@ stays-part j k (Bytes m) n f = go (leb m n) refl
     go true e = rw e f
     go false e = rw e (refl, f)
 
-stays-code : (j : JxlpIndexState) (k : BitstreamKind) (l : Left) (pending : Bool) (s : List ℕ) → MayEnd k l → Stays k (codeStep j k l pending s)
+stays-code : (j : JxlpIndexState) (k : BitstreamKind) (l : BytesLeft) (pending : Bool) (s : List ℕ) → MayEnd k l → Stays k (codeStep j k l pending s)
 stays-code j k l pending [] f = rw (code-wants j k l [] pending (omega arith)) (refl, f)
 stays-code j k l true (x ∷ s) f = rw (code-pending j k l (x ∷ s) (omega arith)) (refl, f)
 stays-code j k l false (x ∷ s) f = rw (code-shows j k l (x ∷ s) (omega arith)) (stays-part j k l (length (x ∷ s)) f)
 
 -- in a container every payload may end
-may-end : (l : Left) → MayEnd K.Container l
+may-end : (l : BytesLeft) → MayEnd K.Container l
 may-end ToEnd = tt
 may-end (Bytes m) = refl
 
-stays-aux : (j : JxlpIndexState) (t : ℕ) (l : Left) (n : ℕ) → Stays K.Container (auxPart j t l n)
+stays-aux : (j : JxlpIndexState) (t : ℕ) (l : BytesLeft) (n : ℕ) → Stays K.Container (auxPart j t l n)
 stays-aux j t ToEnd n = refl
 stays-aux j t (Bytes m) n = go (eqb m 0) refl
   where
@@ -105,7 +105,7 @@ stays-aux j t (Bytes m) n = go (eqb m 0) refl
     go true e = rw e refl
     go false e = rw e refl
 
-stays-index : (i : ℕ) (l : Left) (s : List ℕ) → Stays K.Container (indexStep i l s)
+stays-index : (i : ℕ) (l : BytesLeft) (s : List ℕ) → Stays K.Container (indexStep i l s)
 stays-index i l s = go (ltb (length s) 4) refl (eqb (be32 s 0 % 0x80000000) i) refl
   where
     go : (t : Bool) → ltb (length s) 4 ≡ t → (u : Bool) → eqb (be32 s 0 % 0x80000000) i ≡ u → Stays K.Container (indexStep i l s)
@@ -115,7 +115,7 @@ stays-index i l s = go (ltb (length s) 4) refl (eqb (be32 s 0 % 0x80000000) i) r
         (stays-ahead 4 (codeStep (row (be32 s 0) i) K.Container (less l 4) (toEnd l) (drop 4 s)) (stays-code (row (be32 s 0) i) K.Container (less l 4) (toEnd l) (drop 4 s) (may-end (less l 4))))
     go false e false f = rw (index-wrong i l s (ltb-false (length s) 4 e) (eqb-false (be32 s 0 % 0x80000000) i f)) refl
 
-stays-inner : (j : JxlpIndexState) (l : Left) (s : List ℕ) → Stays K.Container (innerStep j l s)
+stays-inner : (j : JxlpIndexState) (l : BytesLeft) (s : List ℕ) → Stays K.Container (innerStep j l s)
 stays-inner j l s = go (ltb (length s) 4) refl (reserved (be32 s 0)) refl
   where
     go : (t : Bool) → ltb (length s) 4 ≡ t → (u : Bool) → reserved (be32 s 0) ≡ u → Stays K.Container (innerStep j l s)
@@ -123,13 +123,13 @@ stays-inner j l s = go (ltb (length s) 4) refl (reserved (be32 s 0)) refl
     go false e true f = rw (inner-reserved j l s (ltb-false (length s) 4 e) f) refl
     go false e false f = rw (inner-shows j l s (ltb-false (length s) 4 e) f) refl
 
-stays-jxlc : (j : JxlpIndexState) (l : Left) (s : List ℕ) → Stays K.Container (jxlcStep j l s)
+stays-jxlc : (j : JxlpIndexState) (l : BytesLeft) (s : List ℕ) → Stays K.Container (jxlcStep j l s)
 stays-jxlc Initial l s = stays-code SingleJxlc K.Container l (toEnd l) s (may-end l)
 stays-jxlc SingleJxlc l s = refl
 stays-jxlc (Jxlp i) l s = refl
 stays-jxlc JxlpFinished l s = refl
 
-stays-next : (j : JxlpIndexState) (l : Left) (s : List ℕ) → Stays K.Container (jxlpNext j l s)
+stays-next : (j : JxlpIndexState) (l : BytesLeft) (s : List ℕ) → Stays K.Container (jxlpNext j l s)
 stays-next Initial l s = stays-index 0 l s
 stays-next SingleJxlc l s = refl
 stays-next (Jxlp i) l s = stays-index (i + 1) l s
@@ -140,7 +140,7 @@ stays-sized : (u : Bool) (j : JxlpIndexState) (t : Told) → Stays K.Container t
 stays-sized true j t i = refl
 stays-sized false j t i = i
 
-stays-box : (j : JxlpIndexState) (t : ℕ) (l : Left) (s : List ℕ) → Stays K.Container (boxStep j t l s)
+stays-box : (j : JxlpIndexState) (t : ℕ) (l : BytesLeft) (s : List ℕ) → Stays K.Container (boxStep j t l s)
 stays-box j t l s = go (eqb t jxlc) refl (eqb t jxlp) refl (eqb t brob) refl
   where
     go : (u : Bool) → eqb t jxlc ≡ u → (v : Bool) → eqb t jxlp ≡ v → (w : Bool) → eqb t brob ≡ w → Stays K.Container (boxStep j t l s)
@@ -185,7 +185,7 @@ taken-stays k {p} {s = s} (ends e) o = rw e at (kind-stays k p s o)
 
 -- the signature shows KIND, or waits
 abbrev Begins : Told → Type 0
-Begins (shows e q c) = (k : BitstreamKind) × (e ≡ E.Kind k) × Of k (q .state)
+Begins (shows e q c) = (k : BitstreamKind) × (e ≡ E.BitstreamKind k) × Of k (q .state)
 Begins (wants q c) = kindOf q ≡ K.Unknown
 Begins (refuses r q c) = kindOf q ≡ K.Unknown
 
@@ -208,48 +208,48 @@ fresh-kind {s = s} (waits k) = rw k at (begins s)
 fresh-kind {s = s} (ends k) = rw k at (begins s)
 
 -- joining leaves the first KIND
-code-quiet : (x : ℕ) (f : Event) (es : List Event) → codeAt x f ≡ true → kindTold es ≡ kindTold (f ∷ es)
-code-quiet x (E.Kind k) es j = never j
-code-quiet x E.NoMoreAux es j = refl
+code-quiet : (x : ℕ) (f : ParseEvent) (es : List ParseEvent) → codeAt x f ≡ true → kindTold es ≡ kindTold (f ∷ es)
+code-quiet x (E.BitstreamKind k) es j = never j
+code-quiet x E.NoMoreAuxBox es j = refl
 code-quiet x (E.Codestream a n) es j = refl
-code-quiet x (E.AuxStart t b e) es j = refl
-code-quiet x (E.AuxData t a n) es j = refl
-code-quiet x (E.AuxEnd t) es j = refl
+code-quiet x (E.AuxBoxStart t b e) es j = refl
+code-quiet x (E.AuxBoxData t a n) es j = refl
+code-quiet x (E.AuxBoxEnd t) es j = refl
 
-aux-quiet : (u x : ℕ) (f : Event) (es : List Event) → auxAt u x f ≡ true → kindTold es ≡ kindTold (f ∷ es)
-aux-quiet u x (E.Kind k) es j = never j
-aux-quiet u x E.NoMoreAux es j = refl
+aux-quiet : (u x : ℕ) (f : ParseEvent) (es : List ParseEvent) → auxAt u x f ≡ true → kindTold es ≡ kindTold (f ∷ es)
+aux-quiet u x (E.BitstreamKind k) es j = never j
+aux-quiet u x E.NoMoreAuxBox es j = refl
 aux-quiet u x (E.Codestream a n) es j = refl
-aux-quiet u x (E.AuxStart t b e) es j = refl
-aux-quiet u x (E.AuxData t a n) es j = refl
-aux-quiet u x (E.AuxEnd t) es j = refl
+aux-quiet u x (E.AuxBoxStart t b e) es j = refl
+aux-quiet u x (E.AuxBoxData t a n) es j = refl
+aux-quiet u x (E.AuxBoxEnd t) es j = refl
 
-before-kind : (e : Event) (es : List Event) → kindTold (before e es) ≡ kindTold (e ∷ es)
+before-kind : (e : ParseEvent) (es : List ParseEvent) → kindTold (before e es) ≡ kindTold (e ∷ es)
 before-kind e [] = refl
-before-kind (E.Kind k) (f ∷ es) = refl
-before-kind E.NoMoreAux (f ∷ es) = refl
+before-kind (E.BitstreamKind k) (f ∷ es) = refl
+before-kind E.NoMoreAuxBox (f ∷ es) = refl
 before-kind (E.Codestream a n) (f ∷ es) = go (codeAt (a + n) f) refl
   where
     go : (t : Bool) → codeAt (a + n) f ≡ t → kindTold (before (E.Codestream a n) (f ∷ es)) ≡ kindTold (f ∷ es)
     go true j = rw j (code-quiet (a + n) f es j)
     go false j = rw j
-before-kind (E.AuxStart t b e) (f ∷ es) = refl
-before-kind (E.AuxData u a n) (f ∷ es) = go (auxAt u (a + n) f) refl
+before-kind (E.AuxBoxStart t b e) (f ∷ es) = refl
+before-kind (E.AuxBoxData u a n) (f ∷ es) = go (auxAt u (a + n) f) refl
   where
-    go : (t : Bool) → auxAt u (a + n) f ≡ t → kindTold (before (E.AuxData u a n) (f ∷ es)) ≡ kindTold (f ∷ es)
+    go : (t : Bool) → auxAt u (a + n) f ≡ t → kindTold (before (E.AuxBoxData u a n) (f ∷ es)) ≡ kindTold (f ∷ es)
     go true j = rw j (aux-quiet u (a + n) f es j)
     go false j = rw j
-before-kind (E.AuxEnd t) (f ∷ es) = refl
+before-kind (E.AuxBoxEnd t) (f ∷ es) = refl
 
-behind : (e : Event) (es fs : List Event) → kindTold es ≡ kindTold fs → kindTold (e ∷ es) ≡ kindTold (e ∷ fs)
-behind (E.Kind k) es fs h = refl
-behind E.NoMoreAux es fs h = h
+behind : (e : ParseEvent) (es fs : List ParseEvent) → kindTold es ≡ kindTold fs → kindTold (e ∷ es) ≡ kindTold (e ∷ fs)
+behind (E.BitstreamKind k) es fs h = refl
+behind E.NoMoreAuxBox es fs h = h
 behind (E.Codestream a n) es fs h = h
-behind (E.AuxStart t b e) es fs h = h
-behind (E.AuxData t a n) es fs h = h
-behind (E.AuxEnd t) es fs h = h
+behind (E.AuxBoxStart t b e) es fs h = h
+behind (E.AuxBoxData t a n) es fs h = h
+behind (E.AuxBoxEnd t) es fs h = h
 
-joined-kind : (es : List Event) → kindTold (joined es) ≡ kindTold es
+joined-kind : (es : List ParseEvent) → kindTold (joined es) ≡ kindTold es
 joined-kind [] = refl
 joined-kind (e ∷ es) = before-kind e (joined es) ∙ behind e (joined es) es (joined-kind es)
 
@@ -270,7 +270,7 @@ Calm (shows e q c) = Unit {0}
 Calm (wants q c) = Unit {0}
 Calm (refuses r q c) = ⊥
 
-calm-part : (j : JxlpIndexState) (k : BitstreamKind) (l : Left) (n : ℕ) → Calm (codePart j k l n)
+calm-part : (j : JxlpIndexState) (k : BitstreamKind) (l : BytesLeft) (n : ℕ) → Calm (codePart j k l n)
 calm-part j k ToEnd n = tt
 calm-part j k (Bytes m) n = go (leb m n)
   where
@@ -278,7 +278,7 @@ calm-part j k (Bytes m) n = go (leb m n)
     go true = tt
     go false = tt
 
-calm-code : (j : JxlpIndexState) (k : BitstreamKind) (l : Left) (pending : Bool) (s : List ℕ) → Calm (codeStep j k l pending s)
+calm-code : (j : JxlpIndexState) (k : BitstreamKind) (l : BytesLeft) (pending : Bool) (s : List ℕ) → Calm (codeStep j k l pending s)
 calm-code j k l pending [] = rw (code-wants j k l [] pending (omega arith)) tt
 calm-code j k l true (x ∷ s) = rw (code-pending j k l (x ∷ s) (omega arith)) tt
 calm-code j k l false (x ∷ s) = rw (code-shows j k l (x ∷ s) (omega arith)) (calm-part j k l (length (x ∷ s)))

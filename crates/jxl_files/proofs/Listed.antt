@@ -26,8 +26,8 @@ use Rattle.jxl_headers.specs.declared.consts.Signature.{Signature}
 use Rattle.jxl_headers.specs.declared.consts.Signature.the-variants as G
 use Rattle.jxl_container.specs.declared.BitstreamKind.{BitstreamKind}
 use Rattle.jxl_container.specs.declared.BitstreamKind.the-variants as K
-use Rattle.jxl_headers.specs.declared.Left.{Left}
-use Rattle.jxl_headers.specs.declared.Left.the-variants.{ToEnd, Bytes}
+use Rattle.jxl_headers.specs.declared.BytesLeft.{BytesLeft}
+use Rattle.jxl_headers.specs.declared.BytesLeft.the-variants.{ToEnd, Bytes}
 use Rattle.jxl_container.specs.declared.JxlpIndexState.{JxlpIndexState}
 use Rattle.jxl_container.specs.declared.JxlpIndexState.the-variants.{Initial, SingleJxlc, Jxlp, JxlpFinished}
 use Rattle.jxl_container.specs.declared.DetectState.{DetectState}
@@ -75,7 +75,7 @@ lists-ahead k a s l (refuses n q c) h d = d ∙ rw (add-assoc a k c)
 
 -- inside a codestream
 module _ (j : JxlpIndexState) (o : overIndex j ≡ false) (k : BitstreamKind) (m a : ℕ) where
-  lists-part : (l : Left) (s : List ℕ) → 0 < length s → length s ≤ m → Lists a s (coded l a s (boxes m (sofar j))) (codePart j k l (length s))
+  lists-part : (l : BytesLeft) (s : List ℕ) → 0 < length s → length s ≤ m → Lists a s (coded l a s (boxes m (sofar j))) (codePart j k l (length s))
   lists-part ToEnd s p h = (m, omega arith, o, rw (add-zero a, drop-length s))
   lists-part (Bytes n) s p h = go (leb n (length s)) refl
     where
@@ -83,7 +83,7 @@ module _ (j : JxlpIndexState) (o : overIndex j ≡ false) (k : BitstreamKind) (m
       go true e = rw (coded, e) (m, omega arith, o, rw (add-zero a))
       go false e = rw (coded, e) (m, omega arith, o, rw (add-zero a, drop-length s))
 
-  lists-code : (l : Left) (pending : Bool) (s : List ℕ) → length s ≤ m → Lists a s (code pending l a s (boxes m (sofar j))) (codeStep j k l pending s)
+  lists-code : (l : BytesLeft) (pending : Bool) (s : List ℕ) → length s ≤ m → Lists a s (code pending l a s (boxes m (sofar j))) (codeStep j k l pending s)
   lists-code l pending [] h = rw (code-wants j k l [] pending (omega arith), add-zero a)
   lists-code l true (x ∷ s) h = rw (code-pending j k l (x ∷ s) (omega arith)) (m, omega arith, o, rw (add-zero a))
   lists-code l false (x ∷ s) h = rw (code-shows j k l (x ∷ s) (omega arith)) (lists-part l (x ∷ s) (omega arith) h)
@@ -105,7 +105,7 @@ module _ (j : JxlpIndexState) (o : overIndex j ≡ false) (t m a : ℕ) where
       let full : min n (length (x ∷ s)) ≡ length (x ∷ s) = omega (arith, leb-false n (length (x ∷ s)) e) in
       rw (aux, ne-eqb n 0 z, e, full) (m, omega arith, o, rw (add-zero a, drop-length (x ∷ s)))
 
-  lists-side : (l : Left) (x : ℕ) (s : List ℕ) → length (x ∷ s) ≤ m → Lists a (x ∷ s) (aux t l a (x ∷ s) (boxes m (sofar j))) (auxPart j t l (length (x ∷ s)))
+  lists-side : (l : BytesLeft) (x : ℕ) (s : List ℕ) → length (x ∷ s) ≤ m → Lists a (x ∷ s) (aux t l a (x ∷ s) (boxes m (sofar j))) (auxPart j t l (length (x ∷ s)))
   lists-side ToEnd x s h = (m, omega arith, o, rw (add-zero a, drop-length (x ∷ s)))
   lists-side (Bytes n) x s h = go (eqb n 0) refl
     where
@@ -121,7 +121,7 @@ row-is w i = go (leb 0x80000000 w)
     go false = refl
 
 -- a `jxlp` index
-lists-index : (m a i : ℕ) (l : Left) (s : List ℕ) → length s ≤ m → Lists a s (indexed i l a s (boxes m)) (indexStep i l s)
+lists-index : (m a i : ℕ) (l : BytesLeft) (s : List ℕ) → length s ≤ m → Lists a s (indexed i l a s (boxes m)) (indexStep i l s)
 lists-index m a i l s h = go (ltb (length s) 4) refl (eqb (be32 s 0 % 0x80000000) i) refl
   where
     go : (t : Bool) → ltb (length s) 4 ≡ t → (u : Bool) → eqb (be32 s 0 % 0x80000000) i ≡ u → Lists a s (indexed i l a s (boxes m)) (indexStep i l s)
@@ -136,7 +136,7 @@ lists-index m a i l s h = go (ltb (length s) 4) refl (eqb (be32 s 0 % 0x80000000
     go false e false f = rw (index-wrong i l s (ltb-false (length s) 4 e) (eqb-false (be32 s 0 % 0x80000000) i f), indexed, e, f)
 
 -- a `brob` inner type
-lists-inner : (m a : ℕ) (j : JxlpIndexState) → overIndex j ≡ false → (l : Left) (s : List ℕ) → length s ≤ m → Lists a s (inner l a s (boxes m (sofar j))) (innerStep j l s)
+lists-inner : (m a : ℕ) (j : JxlpIndexState) → overIndex j ≡ false → (l : BytesLeft) (s : List ℕ) → length s ≤ m → Lists a s (inner l a s (boxes m (sofar j))) (innerStep j l s)
 lists-inner m a j o l s h = go (ltb (length s) 4) refl (reserved (be32 s 0)) refl
   where
     go : (t : Bool) → ltb (length s) 4 ≡ t → (u : Bool) → reserved (be32 s 0) ≡ u → Lists a s (inner l a s (boxes m (sofar j))) (innerStep j l s)
@@ -145,7 +145,7 @@ lists-inner m a j o l s h = go (ltb (length s) 4) refl (reserved (be32 s 0)) ref
     go false e false f = rw (inner-shows j l s (ltb-false (length s) 4 e) f, inner, e, f) (m, omega arith, o, refl)
 
 -- a box behind its header
-module _ (m a : ℕ) (j : JxlpIndexState) (o : overIndex j ≡ false) (l : Left) (s : List ℕ) (h : length s ≤ m) where
+module _ (m a : ℕ) (j : JxlpIndexState) (o : overIndex j ≡ false) (l : BytesLeft) (s : List ℕ) (h : length s ≤ m) where
   lists-jxlc : (i : JxlpIndexState) → Lists a s (jxlcBox (sofar i) l a s (boxes m)) (jxlcStep i l s)
   lists-jxlc Initial = lists-code SingleJxlc refl K.Container m a l (toEnd l) s h
   lists-jxlc SingleJxlc = rw (add-zero a)

@@ -8,20 +8,20 @@ use borrow.Author.Tests.{eqb-true, eqb-false, eq-eqb, ne-eqb}
 use Rattle.jxl_headers.specs.Bytes.{and}
 use Rattle.jxl_container.specs.Step.{shifted, payload}
 use Rattle.jxl_container.proofs.Step.{shifted-shifted}
-use Rattle.jxl_container.specs.declared.parse.Event.{Event}
-use Rattle.jxl_container.specs.declared.parse.Event.the-variants as E
+use Rattle.jxl_container.specs.declared.parse.ParseEvent.{ParseEvent}
+use Rattle.jxl_container.specs.declared.parse.ParseEvent.the-variants as E
 use Rattle.jxl_cuts.specs.Machine.{further}
 use Rattle.jxl_cuts.specs.Lawful.{Moves}
 use Rattle.jxl_files.specs.Joined.{codeAt, auxAt, joins, longer, lengthOf}
 use Rattle.jxl_files.specs.Parser.{parser}
 
-shift-payload : (n : ℕ) (e : Event) → payload (shifted n e) ≡ further n (payload e)
-shift-payload n (E.Kind k) = refl
-shift-payload n E.NoMoreAux = refl
+shift-payload : (n : ℕ) (e : ParseEvent) → payload (shifted n e) ≡ further n (payload e)
+shift-payload n (E.BitstreamKind k) = refl
+shift-payload n E.NoMoreAuxBox = refl
 shift-payload n (E.Codestream a l) = refl
-shift-payload n (E.AuxStart t b e) = refl
-shift-payload n (E.AuxData t a l) = refl
-shift-payload n (E.AuxEnd t) = refl
+shift-payload n (E.AuxBoxStart t b e) = refl
+shift-payload n (E.AuxBoxData t a l) = refl
+shift-payload n (E.AuxBoxEnd t) = refl
 
 shift-eqb : (n a l b : ℕ) → eqb (n + a + l) (n + b) ≡ eqb (a + l) b
 shift-eqb n a l b = go (eqb (a + l) b) refl
@@ -30,47 +30,47 @@ shift-eqb n a l b = go (eqb (a + l) b) refl
     go true e = eq-eqb (n + a + l) (n + b) (omega (arith, eqb-true (a + l) b e))
     go false e = ne-eqb (n + a + l) (n + b) (λ q. eqb-false (a + l) b e (omega arith))
 
-shift-code : (n a l : ℕ) (f : Event) → codeAt (n + a + l) (shifted n f) ≡ codeAt (a + l) f
-shift-code n a l (E.Kind k) = refl
-shift-code n a l E.NoMoreAux = refl
+shift-code : (n a l : ℕ) (f : ParseEvent) → codeAt (n + a + l) (shifted n f) ≡ codeAt (a + l) f
+shift-code n a l (E.BitstreamKind k) = refl
+shift-code n a l E.NoMoreAuxBox = refl
 shift-code n a l (E.Codestream b m) = shift-eqb n a l b
-shift-code n a l (E.AuxStart t b e) = refl
-shift-code n a l (E.AuxData t b m) = refl
-shift-code n a l (E.AuxEnd t) = refl
+shift-code n a l (E.AuxBoxStart t b e) = refl
+shift-code n a l (E.AuxBoxData t b m) = refl
+shift-code n a l (E.AuxBoxEnd t) = refl
 
-shift-aux : (n t a l : ℕ) (f : Event) → auxAt t (n + a + l) (shifted n f) ≡ auxAt t (a + l) f
-shift-aux n t a l (E.Kind k) = refl
-shift-aux n t a l E.NoMoreAux = refl
+shift-aux : (n t a l : ℕ) (f : ParseEvent) → auxAt t (n + a + l) (shifted n f) ≡ auxAt t (a + l) f
+shift-aux n t a l (E.BitstreamKind k) = refl
+shift-aux n t a l E.NoMoreAuxBox = refl
 shift-aux n t a l (E.Codestream b m) = refl
-shift-aux n t a l (E.AuxStart u b e) = refl
-shift-aux n t a l (E.AuxData u b m) = ap (and (eqb t u)) (shift-eqb n a l b)
-shift-aux n t a l (E.AuxEnd u) = refl
+shift-aux n t a l (E.AuxBoxStart u b e) = refl
+shift-aux n t a l (E.AuxBoxData u b m) = ap (and (eqb t u)) (shift-eqb n a l b)
+shift-aux n t a l (E.AuxBoxEnd u) = refl
 
-shift-joins : (n : ℕ) (e f : Event) → joins (shifted n e) (shifted n f) ≡ joins e f
-shift-joins n (E.Kind k) f = refl
-shift-joins n E.NoMoreAux f = refl
+shift-joins : (n : ℕ) (e f : ParseEvent) → joins (shifted n e) (shifted n f) ≡ joins e f
+shift-joins n (E.BitstreamKind k) f = refl
+shift-joins n E.NoMoreAuxBox f = refl
 shift-joins n (E.Codestream a l) f = shift-code n a l f
-shift-joins n (E.AuxStart t b e) f = refl
-shift-joins n (E.AuxData t a l) f = shift-aux n t a l f
-shift-joins n (E.AuxEnd t) f = refl
+shift-joins n (E.AuxBoxStart t b e) f = refl
+shift-joins n (E.AuxBoxData t a l) f = shift-aux n t a l f
+shift-joins n (E.AuxBoxEnd t) f = refl
 
-shift-length : (n : ℕ) (f : Event) → lengthOf (shifted n f) ≡ lengthOf f
-shift-length n (E.Kind k) = refl
-shift-length n E.NoMoreAux = refl
+shift-length : (n : ℕ) (f : ParseEvent) → lengthOf (shifted n f) ≡ lengthOf f
+shift-length n (E.BitstreamKind k) = refl
+shift-length n E.NoMoreAuxBox = refl
 shift-length n (E.Codestream b m) = refl
-shift-length n (E.AuxStart t b e) = refl
-shift-length n (E.AuxData t b m) = refl
-shift-length n (E.AuxEnd t) = refl
+shift-length n (E.AuxBoxStart t b e) = refl
+shift-length n (E.AuxBoxData t b m) = refl
+shift-length n (E.AuxBoxEnd t) = refl
 
-longer-shifted : (n m : ℕ) (e : Event) → longer m (shifted n e) ≡ shifted n (longer m e)
-longer-shifted n m (E.Kind k) = refl
-longer-shifted n m E.NoMoreAux = refl
+longer-shifted : (n m : ℕ) (e : ParseEvent) → longer m (shifted n e) ≡ shifted n (longer m e)
+longer-shifted n m (E.BitstreamKind k) = refl
+longer-shifted n m E.NoMoreAuxBox = refl
 longer-shifted n m (E.Codestream b l) = refl
-longer-shifted n m (E.AuxStart t b e) = refl
-longer-shifted n m (E.AuxData t b l) = refl
-longer-shifted n m (E.AuxEnd t) = refl
+longer-shifted n m (E.AuxBoxStart t b e) = refl
+longer-shifted n m (E.AuxBoxData t b l) = refl
+longer-shifted n m (E.AuxBoxEnd t) = refl
 
-shift-longer : (n : ℕ) (e f : Event) → longer (lengthOf (shifted n f)) (shifted n e) ≡ shifted n (longer (lengthOf f) e)
+shift-longer : (n : ℕ) (e f : ParseEvent) → longer (lengthOf (shifted n f)) (shifted n e) ≡ shifted n (longer (lengthOf f) e)
 shift-longer n e f = rw (shift-length n f) (longer-shifted n (lengthOf f) e)
 
 pub moves : Moves parser

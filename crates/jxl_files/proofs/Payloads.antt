@@ -6,8 +6,8 @@ use native.Mathlib.Omega.{arith}
 use lib.ListN.{length}
 use Rattle.jxl_container.specs.Record.{fresh}
 use Rattle.jxl_container.specs.Step.{payload}
-use Rattle.jxl_container.specs.declared.parse.Event.{Event}
-use Rattle.jxl_container.specs.declared.parse.Event.the-variants as E
+use Rattle.jxl_container.specs.declared.parse.ParseEvent.{ParseEvent}
+use Rattle.jxl_container.specs.declared.parse.ParseEvent.the-variants as E
 use Rattle.jxl_cuts.specs.Machine.{Inside}
 use Rattle.jxl_files.specs.Feeding.{Shown, events, eventsIn, feeding, bytesOf}
 use Rattle.jxl_files.specs.Theorems.{Right, All, JoinerListsTheFile}
@@ -16,13 +16,13 @@ use Rattle.jxl_files.proofs.Theorems.{bytes-shown, every-cut-of-a-file}
 use Rattle.jxl_files.proofs.Joining.{joiner-joins}
 
 -- an event inside a file that 64 bits can count
-inside-counted : (n : ℕ) (e : Event) → n < 2 ^ 64 → Inside (payload e) n → Counted e
-inside-counted n (E.Kind k) h i = omega arith
-inside-counted n E.NoMoreAux h i = omega arith
+inside-counted : (n : ℕ) (e : ParseEvent) → n < 2 ^ 64 → Inside (payload e) n → Counted e
+inside-counted n (E.BitstreamKind k) h i = omega arith
+inside-counted n E.NoMoreAuxBox h i = omega arith
 inside-counted n (E.Codestream a l) h i = omega arith
-inside-counted n (E.AuxStart t b e) h i = omega arith
-inside-counted n (E.AuxData t a l) h i = omega arith
-inside-counted n (E.AuxEnd t) h i = omega arith
+inside-counted n (E.AuxBoxStart t b e) h i = omega arith
+inside-counted n (E.AuxBoxData t a l) h i = omega arith
+inside-counted n (E.AuxBoxEnd t) h i = omega arith
 
 all-counted : (file : List ℕ) → length file < 2 ^ 64 → (xs : List Shown) → All (Right file) xs → AllCounted (eventsIn xs)
 all-counted file h [] a = tt

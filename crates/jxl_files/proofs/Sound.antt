@@ -24,15 +24,15 @@ use Rattle.jxl_headers.specs.declared.consts.Signature.{Signature}
 use Rattle.jxl_headers.specs.declared.consts.Signature.the-variants as G
 use Rattle.jxl_container.specs.declared.BitstreamKind.{BitstreamKind}
 use Rattle.jxl_container.specs.declared.BitstreamKind.the-variants as K
-use Rattle.jxl_headers.specs.declared.Left.{Left}
-use Rattle.jxl_headers.specs.declared.Left.the-variants.{ToEnd, Bytes}
+use Rattle.jxl_headers.specs.declared.BytesLeft.{BytesLeft}
+use Rattle.jxl_headers.specs.declared.BytesLeft.the-variants.{ToEnd, Bytes}
 use Rattle.jxl_container.specs.declared.JxlpIndexState.{JxlpIndexState}
 use Rattle.jxl_container.specs.declared.JxlpIndexState.the-variants.{Initial, SingleJxlc, Jxlp, JxlpFinished}
 use Rattle.jxl_container.specs.declared.DetectState.{DetectState}
 use Rattle.jxl_container.specs.declared.DetectState.the-variants as S
 use Rattle.jxl_container.specs.declared.ContainerParser.{ContainerParser}
-use Rattle.jxl_container.specs.declared.parse.Event.{Event}
-use Rattle.jxl_container.specs.declared.parse.Event.the-variants as E
+use Rattle.jxl_container.specs.declared.parse.ParseEvent.{ParseEvent}
+use Rattle.jxl_container.specs.declared.parse.ParseEvent.the-variants as E
 use Rattle.jxl_cuts.specs.Lawful.{Paid}
 use Rattle.jxl_cuts.proofs.Ahead.{paid-ahead, paid-more}
 use Rattle.jxl_files.specs.Joined.{codeAt, joins}
@@ -44,7 +44,7 @@ abbrev pub codeWeight : Bool → ℕ
 codeWeight true = 6
 codeWeight false = 3
 
-abbrev pub auxWeight : Left → ℕ
+abbrev pub auxWeight : BytesLeft → ℕ
 auxWeight ToEnd = 5
 auxWeight (Bytes m) = if (eqb m 0) 3 5
 
@@ -60,7 +60,7 @@ weightIn (S.Refused k r) = 0
 abbrev pub weight : ContainerParser → ℕ
 weight p = weightIn (p .state)
 
-aux-weight : (l : Left) → auxWeight l ≤ 5
+aux-weight : (l : BytesLeft) → auxWeight l ≤ 5
 aux-weight ToEnd = omega arith
 aux-weight (Bytes m) = go (eqb m 0)
   where
@@ -69,13 +69,13 @@ aux-weight (Bytes m) = go (eqb m 0)
     go false = omega arith
 
 -- an event, the record behind it, and the bytes consumed of n: where input is left, the event's payload is over
-abbrev Loose : ℕ → Event → ContainerParser → ℕ → Type 0
-Loose n (E.Kind k) q c = Unit {0}
-Loose n E.NoMoreAux q c = Unit {0}
+abbrev Loose : ℕ → ParseEvent → ContainerParser → ℕ → Type 0
+Loose n (E.BitstreamKind k) q c = Unit {0}
+Loose n E.NoMoreAuxBox q c = Unit {0}
 Loose n (E.Codestream x l) q c = (x + l ≡ c) × ((n ≤ c) ⊎ (q .state ≡ S.WaitingBoxHeader))
-Loose n (E.AuxStart t b e) q c = Unit {0}
-Loose n (E.AuxData t x l) q c = (n ≤ c) ⊎ (q .state ≡ S.InAuxBox t (Bytes 0))
-Loose n (E.AuxEnd t) q c = Unit {0}
+Loose n (E.AuxBoxStart t b e) q c = Unit {0}
+Loose n (E.AuxBoxData t x l) q c = (n ≤ c) ⊎ (q .state ≡ S.InAuxBox t (Bytes 0))
+Loose n (E.AuxBoxEnd t) q c = Unit {0}
 
 -- what a step tells of n bytes
 abbrev Over : ℕ → Told → Type 0
@@ -87,15 +87,15 @@ Over n (refuses r q c) = Unit {0}
 abbrev Sound : ℕ → ℕ → Told → Type 0
 Sound w n t = Paid parser weight w n t × Over n t
 
-loose-ahead : (k n : ℕ) (e : Event) (q : ContainerParser) (c : ℕ) → k ≤ n → Loose (n - k) e q c → Loose n (shifted k e) q (k + c)
-loose-ahead k n (E.Kind x) q c h i = tt
-loose-ahead k n E.NoMoreAux q c h i = tt
+loose-ahead : (k n : ℕ) (e : ParseEvent) (q : ContainerParser) (c : ℕ) → k ≤ n → Loose (n - k) e q c → Loose n (shifted k e) q (k + c)
+loose-ahead k n (E.BitstreamKind x) q c h i = tt
+loose-ahead k n E.NoMoreAuxBox q c h i = tt
 loose-ahead k n (E.Codestream x l) q c h (e, inl d) = (omega arith, inl (omega arith))
 loose-ahead k n (E.Codestream x l) q c h (e, inr d) = (omega arith, inr d)
-loose-ahead k n (E.AuxStart t b e) q c h i = tt
-loose-ahead k n (E.AuxData t x l) q c h (inl d) = inl (omega arith)
-loose-ahead k n (E.AuxData t x l) q c h (inr d) = inr d
-loose-ahead k n (E.AuxEnd t) q c h i = tt
+loose-ahead k n (E.AuxBoxStart t b e) q c h i = tt
+loose-ahead k n (E.AuxBoxData t x l) q c h (inl d) = inl (omega arith)
+loose-ahead k n (E.AuxBoxData t x l) q c h (inr d) = inr d
+loose-ahead k n (E.AuxBoxEnd t) q c h i = tt
 
 over-ahead : (k : ℕ) (s : List ℕ) (t : Told) → k ≤ length s → Over (length (drop k s)) t → Over (length s) (ahead k t)
 over-ahead k s (shows e q c) h i = loose-ahead k (length s) e q c h (rw (length-drop k s) at i)
@@ -109,7 +109,7 @@ sound-ahead k w v s t h m (a, i) = (paid-ahead parser weight k w v s t h m a, ov
 sound-more : (w v n : ℕ) (t : Told) → w ≤ v → Sound w n t → Sound v n t
 sound-more w v n t m (a, i) = (paid-more parser weight w v n t m a, i)
 
-sound-part : (j : JxlpIndexState) (k : BitstreamKind) (l : Left) (n : ℕ) → 0 < n → Sound 3 n (codePart j k l n)
+sound-part : (j : JxlpIndexState) (k : BitstreamKind) (l : BytesLeft) (n : ℕ) → 0 < n → Sound 3 n (codePart j k l n)
 sound-part j k ToEnd n h = ((omega arith, λ l. absurd (omega arith)), (omega arith, inl (omega arith)))
 sound-part j k (Bytes m) n h = go (leb m n) refl
   where
@@ -117,7 +117,7 @@ sound-part j k (Bytes m) n h = go (leb m n) refl
     go true e = rw e ((omega arith, λ l. omega arith), (omega arith, inr refl))
     go false e = rw e ((omega arith, λ l. absurd (omega arith)), (omega arith, inl (omega arith)))
 
-sound-code : (j : JxlpIndexState) (k : BitstreamKind) (l : Left) (pending : Bool) (s : List ℕ) → Sound (codeWeight pending) (length s) (codeStep j k l pending s)
+sound-code : (j : JxlpIndexState) (k : BitstreamKind) (l : BytesLeft) (pending : Bool) (s : List ℕ) → Sound (codeWeight pending) (length s) (codeStep j k l pending s)
 sound-code j k l pending [] = rw (code-wants j k l [] pending (omega arith)) (tt, tt)
 sound-code j k l true (x ∷ s) = rw (code-pending j k l (x ∷ s) (omega arith)) ((omega arith, λ l. omega arith), tt)
 sound-code j k l false (x ∷ s) = rw (code-shows j k l (x ∷ s) (omega arith)) (sound-part j k l (length (x ∷ s)) (omega arith))
@@ -126,13 +126,13 @@ code-weight : (t : Bool) → codeWeight t ≤ 6
 code-weight true = omega arith
 code-weight false = omega arith
 
-sound-aux : (j : JxlpIndexState) (t : ℕ) (l : Left) (n : ℕ) → 0 < n → Sound (auxWeight l) n (auxPart j t l n)
+sound-aux : (j : JxlpIndexState) (t : ℕ) (l : BytesLeft) (n : ℕ) → 0 < n → Sound (auxWeight l) n (auxPart j t l n)
 sound-aux j t ToEnd n h = ((omega arith, λ l. absurd (omega arith)), inl (omega arith))
 sound-aux j t (Bytes m) n h = go (eqb m 0) refl
   where
     -- the payload ends inside the input, or goes on behind it
     size : (m ≡ 0 → ⊥) → (u : Bool) → leb m n ≡ u
-        → Sound 5 n (shows (E.AuxData t 0 (min m n)) (at (S.InAuxBox t (Bytes (m - min m n))) j) (min m n))
+        → Sound 5 n (shows (E.AuxBoxData t 0 (min m n)) (at (S.InAuxBox t (Bytes (m - min m n))) j) (min m n))
     size z true e =
         let all : min m n ≡ m = omega (arith, leb-true m n e) in
         let over : m - m ≡ 0 = omega arith in
@@ -145,7 +145,7 @@ sound-aux j t (Bytes m) n h = go (eqb m 0) refl
     go true e = rw e ((omega arith, λ l. omega arith), tt)
     go false e = rw e (size (eqb-false m 0 e) (leb m n) refl)
 
-sound-index : (i : ℕ) (l : Left) (s : List ℕ) → Sound 2 (length s) (indexStep i l s)
+sound-index : (i : ℕ) (l : BytesLeft) (s : List ℕ) → Sound 2 (length s) (indexStep i l s)
 sound-index i l s = go (ltb (length s) 4) refl (eqb (be32 s 0 % 0x80000000) i) refl
   where
     go : (t : Bool) → ltb (length s) 4 ≡ t → (u : Bool) → eqb (be32 s 0 % 0x80000000) i ≡ u → Sound 2 (length s) (indexStep i l s)
@@ -157,7 +157,7 @@ sound-index i l s = go (ltb (length s) 4) refl (eqb (be32 s 0 % 0x80000000) i) r
         (sound-ahead 4 (codeWeight (toEnd l)) 2 s after h (omega (arith, code-weight (toEnd l))) (sound-code (row (be32 s 0) i) K.Container (less l 4) (toEnd l) (drop 4 s)))
     go false e false f = rw (index-wrong i l s (ltb-false (length s) 4 e) (eqb-false (be32 s 0 % 0x80000000) i f)) (tt, tt)
 
-sound-inner : (j : JxlpIndexState) (l : Left) (s : List ℕ) → Sound 4 (length s) (innerStep j l s)
+sound-inner : (j : JxlpIndexState) (l : BytesLeft) (s : List ℕ) → Sound 4 (length s) (innerStep j l s)
 sound-inner j l s = go (ltb (length s) 4) refl (reserved (be32 s 0)) refl
   where
     go : (t : Bool) → ltb (length s) 4 ≡ t → (u : Bool) → reserved (be32 s 0) ≡ u → Sound 4 (length s) (innerStep j l s)
@@ -165,14 +165,14 @@ sound-inner j l s = go (ltb (length s) 4) refl (reserved (be32 s 0)) refl
     go false e true f = rw (inner-reserved j l s (ltb-false (length s) 4 e) f) (tt, tt)
     go false e false f = rw (inner-shows j l s (ltb-false (length s) 4 e) f) ((omega arith, λ h. omega (arith, aux-weight (less l 4))), tt)
 
-sound-jxlc : (j : JxlpIndexState) (l : Left) (s : List ℕ) → Sound 8 (length s) (jxlcStep j l s)
+sound-jxlc : (j : JxlpIndexState) (l : BytesLeft) (s : List ℕ) → Sound 8 (length s) (jxlcStep j l s)
 sound-jxlc Initial l s =
     sound-more (codeWeight (toEnd l)) 8 (length s) (codeStep SingleJxlc K.Container l (toEnd l) s) (omega (arith, code-weight (toEnd l))) (sound-code SingleJxlc K.Container l (toEnd l) s)
 sound-jxlc SingleJxlc l s = (tt, tt)
 sound-jxlc (Jxlp i) l s = (tt, tt)
 sound-jxlc JxlpFinished l s = (tt, tt)
 
-sound-next : (j : JxlpIndexState) (l : Left) (s : List ℕ) → Sound 8 (length s) (jxlpNext j l s)
+sound-next : (j : JxlpIndexState) (l : BytesLeft) (s : List ℕ) → Sound 8 (length s) (jxlpNext j l s)
 sound-next Initial l s = sound-more 2 8 (length s) (indexStep 0 l s) (omega arith) (sound-index 0 l s)
 sound-next SingleJxlc l s = (tt, tt)
 sound-next (Jxlp i) l s = sound-more 2 8 (length s) (indexStep (i + 1) l s) (omega arith) (sound-index (i + 1) l s)
@@ -183,7 +183,7 @@ sound-if : (w n : ℕ) (u : Bool) (r : Why) (p : ContainerParser) (c : ℕ) (t :
 sound-if w n true r p c t i = (tt, tt)
 sound-if w n false r p c t i = i
 
-sound-box : (j : JxlpIndexState) (t : ℕ) (l : Left) (s : List ℕ) → Sound 8 (length s) (boxStep j t l s)
+sound-box : (j : JxlpIndexState) (t : ℕ) (l : BytesLeft) (s : List ℕ) → Sound 8 (length s) (boxStep j t l s)
 sound-box j t l s = go (eqb t jxlc) refl (eqb t jxlp) refl (eqb t brob) refl
   where
     go : (u : Bool) → eqb t jxlc ≡ u → (v : Bool) → eqb t jxlp ≡ v → (w : Bool) → eqb t brob ≡ w → Sound 8 (length s) (boxStep j t l s)
@@ -229,7 +229,7 @@ sound p s = go s (isRefused p) refl (impossible p) refl
     go (x ∷ s) t r false i = rw (step-state p (x ∷ s) (omega arith) i) (sound-state (p .state) (p .jxlp) (x ∷ s) (omega arith))
 
 -- no event comes of an empty input
-none-of-none : (p : ContainerParser) {e : Event} {q : ContainerParser} {c : ℕ} → stepOf p [] ≡ shows e q c → ⊥
+none-of-none : (p : ContainerParser) {e : ParseEvent} {q : ContainerParser} {c : ℕ} → stepOf p [] ≡ shows e q c → ⊥
 none-of-none p h = go (isRefused p) refl
   where
     go : (t : Bool) → isRefused p ≡ t → ⊥
@@ -248,21 +248,21 @@ weight-most p = go (p .state)
     go (S.InCodestream k l pending) = omega (arith, code-weight pending)
     go (S.Refused k r) = omega arith
 
-abbrev FarEvent : Event → Type 0
-FarEvent (E.Kind k) = Unit {0}
-FarEvent E.NoMoreAux = Unit {0}
+abbrev FarEvent : ParseEvent → Type 0
+FarEvent (E.BitstreamKind k) = Unit {0}
+FarEvent E.NoMoreAuxBox = Unit {0}
 FarEvent (E.Codestream x l) = 0 < x
-FarEvent (E.AuxStart t b e) = Unit {0}
-FarEvent (E.AuxData t x l) = Unit {0}
-FarEvent (E.AuxEnd t) = Unit {0}
+FarEvent (E.AuxBoxStart t b e) = Unit {0}
+FarEvent (E.AuxBoxData t x l) = Unit {0}
+FarEvent (E.AuxBoxEnd t) = Unit {0}
 
-far-shifted : (k : ℕ) (e : Event) → 0 < k → FarEvent (shifted k e)
-far-shifted k (E.Kind x) h = tt
-far-shifted k E.NoMoreAux h = tt
+far-shifted : (k : ℕ) (e : ParseEvent) → 0 < k → FarEvent (shifted k e)
+far-shifted k (E.BitstreamKind x) h = tt
+far-shifted k E.NoMoreAuxBox h = tt
 far-shifted k (E.Codestream x l) h = omega arith
-far-shifted k (E.AuxStart t b e) h = tt
-far-shifted k (E.AuxData t x l) h = tt
-far-shifted k (E.AuxEnd t) h = tt
+far-shifted k (E.AuxBoxStart t b e) h = tt
+far-shifted k (E.AuxBoxData t x l) h = tt
+far-shifted k (E.AuxBoxEnd t) h = tt
 
 -- a codestream payload behind a header does not stand where the header does
 abbrev Far : Told → Type 0
@@ -289,41 +289,41 @@ far-step j (x ∷ s) = go (impossible (at S.WaitingBoxHeader j)) refl
     go false i = rw (step-state (at S.WaitingBoxHeader j) (x ∷ s) (omega arith) i) (far-header j (x ∷ s) (headerOf (x ∷ s)) refl)
 
 -- a side box with nothing left shows its end
-end-step : (j : JxlpIndexState) (t : ℕ) (s : List ℕ) {f : Event} {q : ContainerParser} {d : ℕ} → stepOf (at (S.InAuxBox t (Bytes 0)) j) s ≡ shows f q d → f ≡ E.AuxEnd t
+end-step : (j : JxlpIndexState) (t : ℕ) (s : List ℕ) {f : ParseEvent} {q : ContainerParser} {d : ℕ} → stepOf (at (S.InAuxBox t (Bytes 0)) j) s ≡ shows f q d → f ≡ E.AuxBoxEnd t
 end-step j t [] h = absurd (none-of-none (at (S.InAuxBox t (Bytes 0)) j) h)
 end-step j t (x ∷ s) {f} h = go (impossible (at (S.InAuxBox t (Bytes 0)) j)) refl
   where
-    go : (u : Bool) → impossible (at (S.InAuxBox t (Bytes 0)) j) ≡ u → f ≡ E.AuxEnd t
+    go : (u : Bool) → impossible (at (S.InAuxBox t (Bytes 0)) j) ≡ u → f ≡ E.AuxBoxEnd t
     go true i = cc (step-impossible (at (S.InAuxBox t (Bytes 0)) j) (x ∷ s) (omega arith) i)
     go false i = cc (step-state (at (S.InAuxBox t (Bytes 0)) j) (x ∷ s) (omega arith) i)
 
 -- two events of one input never join
 module _ (q : ContainerParser) (c : ℕ) (s : List ℕ) where
-  code-apart : (x l : ℕ) → x + l ≡ c → (f : Event) → FarEvent f → codeAt (x + l) (shifted c f) ≡ false
-  code-apart x l e (E.Kind k) h = refl
-  code-apart x l e E.NoMoreAux h = refl
+  code-apart : (x l : ℕ) → x + l ≡ c → (f : ParseEvent) → FarEvent f → codeAt (x + l) (shifted c f) ≡ false
+  code-apart x l e (E.BitstreamKind k) h = refl
+  code-apart x l e E.NoMoreAuxBox h = refl
   code-apart x l e (E.Codestream y m) h = ne-eqb (x + l) (c + y) (λ z. omega arith)
-  code-apart x l e (E.AuxStart t b i) h = refl
-  code-apart x l e (E.AuxData t y m) h = refl
-  code-apart x l e (E.AuxEnd t) h = refl
+  code-apart x l e (E.AuxBoxStart t b i) h = refl
+  code-apart x l e (E.AuxBoxData t y m) h = refl
+  code-apart x l e (E.AuxBoxEnd t) h = refl
 
-  loose-apart : (e : Event) → Loose (length s) e q c → {f : Event} {r : ContainerParser} {d : ℕ} → stepOf q (drop c s) ≡ shows f r d
+  loose-apart : (e : ParseEvent) → Loose (length s) e q c → {f : ParseEvent} {r : ContainerParser} {d : ℕ} → stepOf q (drop c s) ≡ shows f r d
       → joins e (shifted c f) ≡ false
-  loose-apart (E.Kind k) i h = refl
-  loose-apart E.NoMoreAux i h = refl
+  loose-apart (E.BitstreamKind k) i h = refl
+  loose-apart E.NoMoreAuxBox i h = refl
   loose-apart (E.Codestream x l) (e, inl n) h = absurd (none-of-none q (rw (drop-of-length-le s n) at h))
   loose-apart (E.Codestream x l) (e, inr n) {f} h =
       let behind : ContainerParser = at S.WaitingBoxHeader (q .jxlp) in
       let same : q ≡ behind = ap (λ (d : DetectState). at d (q .jxlp)) n in
       code-apart x l e f (rw (ap (λ (p : ContainerParser). stepOf p (drop c s)) (sym same) ∙ h) at (far-step (q .jxlp) (drop c s)))
-  loose-apart (E.AuxStart t b e) i h = refl
-  loose-apart (E.AuxData t x l) (inl n) h = absurd (none-of-none q (rw (drop-of-length-le s n) at h))
-  loose-apart (E.AuxData t x l) (inr n) h =
+  loose-apart (E.AuxBoxStart t b e) i h = refl
+  loose-apart (E.AuxBoxData t x l) (inl n) h = absurd (none-of-none q (rw (drop-of-length-le s n) at h))
+  loose-apart (E.AuxBoxData t x l) (inr n) h =
       let over : ContainerParser = at (S.InAuxBox t (Bytes 0)) (q .jxlp) in
       let same : q ≡ over = ap (λ (d : DetectState). at d (q .jxlp)) n in
       rw (end-step (q .jxlp) t (drop c s) (ap (λ (p : ContainerParser). stepOf p (drop c s)) (sym same) ∙ h))
-  loose-apart (E.AuxEnd t) i h = refl
+  loose-apart (E.AuxBoxEnd t) i h = refl
 
-pub apart : (p : ContainerParser) (s : List ℕ) {e f : Event} {q r : ContainerParser} {c d : ℕ} → stepOf p s ≡ shows e q c → stepOf q (drop c s) ≡ shows f r d
+pub apart : (p : ContainerParser) (s : List ℕ) {e f : ParseEvent} {q r : ContainerParser} {c d : ℕ} → stepOf p s ≡ shows e q c → stepOf q (drop c s) ≡ shows f r d
     → joins e (shifted c f) ≡ false
 apart p s {e} {q = q} {c = c} h k = loose-apart q c s e ((rw h at (sound p s)) .1) k

@@ -2,7 +2,7 @@
 use mathlib.Core.List.{List}
 use Prim.Native.Nat.{ℕ}
 use Rattle.jxl_container.specs.declared.ContainerParser.{ContainerParser}
-use Rattle.jxl_container.specs.declared.parse.Event.{Event}
+use Rattle.jxl_container.specs.declared.parse.ParseEvent.{ParseEvent}
 use Rattle.jxl_container.specs.Step.{Told}
 use Rattle.jxl_cuts.specs.Feeding as Any
 use Rattle.jxl_cuts.specs.Joined as AnyJoined
@@ -19,7 +19,7 @@ Seen = Any.Seen parser
 abbrev pub stops : Stop → ContainerParser → ℕ → Seen
 stops = Any.stops parser
 
-abbrev pub placed : ℕ → List ℕ → Event → Shown
+abbrev pub placed : ℕ → List ℕ → ParseEvent → Shown
 placed = Any.placed parser
 
 abbrev pub taking : ℕ → ContainerParser → ℕ → List ℕ → Seen
@@ -31,10 +31,10 @@ take = Any.take parser
 abbrev pub Takes : ContainerParser → ℕ → List ℕ → Seen → List ℕ → Type 0
 Takes = Any.Takes parser
 
-abbrev pub before : Event → List Event → List Event
+abbrev pub before : ParseEvent → List ParseEvent → List ParseEvent
 before = AnyJoined.before parser
 
-abbrev pub joined : List Event → List Event
+abbrev pub joined : List ParseEvent → List ParseEvent
 joined = AnyJoined.joined parser
 
 abbrev pub feeding : ContainerParser → ℕ → List (List ℕ) → Seen

@@ -4,38 +4,38 @@ use mathlib.Core.List.{List, [], _∷_, _++_}
 use Prim.Native.Nat.{ℕ, _+_, _-_, _/_, _^_, _<_, min}
 use lib.Dec.{ltb}
 use Rattle.jxl_headers.specs.Bytes.{if, and}
-use Rattle.jxl_container.specs.declared.parse.Event.{Event}
+use Rattle.jxl_container.specs.declared.parse.ParseEvent.{ParseEvent}
 use Rattle.jxl_files.specs.Joined.{joins, lengthOf, endOf, longer}
-use Rattle.jxl_files.specs.declared.Held.{Held}
-use Rattle.jxl_files.specs.declared.Held.the-variants.{Nothing, Waiting}
+use Rattle.jxl_files.specs.declared.MaybeEvent.{MaybeEvent}
+use Rattle.jxl_files.specs.declared.MaybeEvent.the-variants.{None, Some}
 use Rattle.jxl_files.specs.declared.Added.{Added}
 
 -- what is handed back, and what is held from then on
-abbrev pub added : Held → Held → Added
+abbrev pub added : MaybeEvent → MaybeEvent → Added
 added out held = record { out = out; next = record { held = held } }
 
 -- the part held and the next one are one part, whose length fits 64 bits
-abbrev pub extends : Event → Event → Bool
+abbrev pub extends : ParseEvent → ParseEvent → Bool
 extends h e = and (joins h e) (ltb (lengthOf h + lengthOf e) (2 ^ 64))
 
-abbrev pub adding : Held → Event → Added
-adding Nothing e = added Nothing (Waiting e)
-adding (Waiting h) e = if (extends h e) (added Nothing (Waiting (longer (lengthOf e) h))) (added (Waiting h) (Waiting e))
+abbrev pub adding : MaybeEvent → ParseEvent → Added
+adding None e = added None (Some e)
+adding (Some h) e = if (extends h e) (added None (Some (longer (lengthOf e) h))) (added (Some h) (Some e))
 
-abbrev pub handed : Held → List Event
-handed Nothing = []
-handed (Waiting e) = e ∷ []
+abbrev pub handed : MaybeEvent → List ParseEvent
+handed None = []
+handed (Some e) = e ∷ []
 
 -- events put in one after the other, and the one held taken at the end
-abbrev pub run : Held → List Event → List Event
+abbrev pub run : MaybeEvent → List ParseEvent → List ParseEvent
 run h [] = handed h
 run h (e ∷ es) = handed (adding h e .out) ++ run (adding h e .next .held) es
 
 -- an event of a file that 64 bits can count
-abbrev pub Counted : Event → Type 0
+abbrev pub Counted : ParseEvent → Type 0
 Counted e = endOf e < 2 ^ 64
 
-abbrev pub AllCounted : List Event → Type 0
+abbrev pub AllCounted : List ParseEvent → Type 0
 AllCounted [] = Unit {0}
 AllCounted (e ∷ es) = Counted e × AllCounted es
 

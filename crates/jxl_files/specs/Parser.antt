@@ -4,7 +4,7 @@ use Prim.Native.Nat.{ℕ}
 use Rattle.jxl_headers.specs.Refusals.{Why}
 use Rattle.jxl_container.specs.Step.{Told, shifted, stepOf, payload}
 use Rattle.jxl_container.specs.declared.ContainerParser.{ContainerParser}
-use Rattle.jxl_container.specs.declared.parse.Event.{Event}
+use Rattle.jxl_container.specs.declared.parse.ParseEvent.{ParseEvent}
 use Rattle.jxl_cuts.specs.Machine.{Machine}
 use Rattle.jxl_files.specs.Joined.{joins, longer, lengthOf}
 
@@ -13,7 +13,7 @@ abbrev pub parserBy : (ContainerParser → List ℕ → Told) → Machine
 parserBy step =
     record {
       State = ContainerParser;
-      Event = Event;
+      Event = ParseEvent;
       Why = Why;
       step = step;
       payload = payload;

@@ -12,8 +12,8 @@ use Rattle.jxl_container.specs.declared.BitstreamKind.{BitstreamKind}
 use Rattle.jxl_container.specs.declared.BitstreamKind.the-variants as K
 use Rattle.jxl_container.specs.declared.DetectState.the-variants as S
 use Rattle.jxl_container.specs.declared.ContainerParser.{ContainerParser}
-use Rattle.jxl_container.specs.declared.parse.Event.{Event}
-use Rattle.jxl_container.specs.declared.parse.Event.the-variants as E
+use Rattle.jxl_container.specs.declared.parse.ParseEvent.{ParseEvent}
+use Rattle.jxl_container.specs.declared.parse.ParseEvent.the-variants as E
 use Rattle.jxl_base.specs.OneAnswer.{OneAnswer}
 use Rattle.jxl_cuts.specs.Lawful.{Lawful}
 use Rattle.jxl_cuts.specs.Feeding as Any
@@ -24,7 +24,7 @@ use Rattle.jxl_files.specs.Grammar.{want, Listing, file}
 use Rattle.jxl_files.specs.Joiner.{adding, run, AllCounted, mostEvents}
 use Rattle.jxl_files.specs.Feeding.{Shown, Seen, events, taking, take, joined, feeding, bytesOf, Takes}
 use Rattle.jxl_files.specs.Placing.{placing}
-use Rattle.jxl_files.specs.declared.Held.the-variants.{Nothing}
+use Rattle.jxl_files.specs.declared.MaybeEvent.the-variants.{None}
 use Rattle.jxl_files.specs.declared.Joiner.{Joiner}
 
 -- what was seen of a parser that steps so, as a listing
@@ -42,7 +42,7 @@ abbrev pub onlyRefuses : ContainerParser → List ℕ → Told
 onlyRefuses p s = refuses (refusal 1 []) p 0
 
 abbrev pub onlyInvalid : ContainerParser → List ℕ → Told
-onlyInvalid p s = shows (E.Kind K.Invalid) p 0
+onlyInvalid p s = shows (E.BitstreamKind K.Invalid) p 0
 
 abbrev pub onlyWants : ContainerParser → List ℕ → Told
 onlyWants p s = wants p 0
@@ -133,14 +133,14 @@ abbrev pub OneWay : Type 0
 OneWay = (p : ContainerParser) (at : ℕ) (s : List ℕ) (r : Seen) (u : List ℕ) → Takes p at s r u → take p at s ≡ r
 
 -- the kind that the first KIND tells; unknown before it
-abbrev pub kindTold : List Event → BitstreamKind
+abbrev pub kindTold : List ParseEvent → BitstreamKind
 kindTold [] = K.Unknown
-kindTold (E.Kind k ∷ es) = k
-kindTold (E.NoMoreAux ∷ es) = kindTold es
+kindTold (E.BitstreamKind k ∷ es) = k
+kindTold (E.NoMoreAuxBox ∷ es) = kindTold es
 kindTold (E.Codestream a n ∷ es) = kindTold es
-kindTold (E.AuxStart t b e ∷ es) = kindTold es
-kindTold (E.AuxData t a n ∷ es) = kindTold es
-kindTold (E.AuxEnd t ∷ es) = kindTold es
+kindTold (E.AuxBoxStart t b e ∷ es) = kindTold es
+kindTold (E.AuxBoxData t a n ∷ es) = kindTold es
+kindTold (E.AuxBoxEnd t ∷ es) = kindTold es
 
 -- kind: of a fresh parser fed any packets, the kind told on request is unknown before KIND, then KIND's
 abbrev pub KindIsTold : Type 0
@@ -156,18 +156,18 @@ RefusalKeepsKind = (p : ContainerParser) (s : List ℕ) (w : Why) (q : Container
 
 -- joiner: of events whose ends 64 bits can count, it hands back the joined ones
 abbrev pub JoinerJoins : Type 0
-JoinerJoins = (es : List Event) → AllCounted es → run Nothing es ≡ joined es
+JoinerJoins = (es : List ParseEvent) → AllCounted es → run None es ≡ joined es
 
 -- and so, of a file under 2^64 bytes cut in any packets, exactly what the grammar lists
 abbrev pub JoinerListsTheFile : Type 0
-JoinerListsTheFile = (xs : List (List ℕ)) → length (bytesOf xs) < 2 ^ 64 → run Nothing (events (feeding fresh 0 xs)) ≡ file (bytesOf xs) .events
+JoinerListsTheFile = (xs : List (List ℕ)) → length (bytesOf xs) < 2 ^ 64 → run None (events (feeding fresh 0 xs)) ≡ file (bytesOf xs) .events
 
 -- one answer: each promise determines what its function gives
 abbrev pub OneNew : Type 0
-OneNew = OneAnswer (λ (r : Joiner). r .held ≡ Nothing)
+OneNew = OneAnswer (λ (r : Joiner). r .held ≡ None)
 
 abbrev pub OneAdd : Type 0
-OneAdd = (j : Joiner) (e : Event) → OneAnswer (λ r. r ≡ adding (j .held) e)
+OneAdd = (j : Joiner) (e : ParseEvent) → OneAnswer (λ r. r ≡ adding (j .held) e)
 
 abbrev pub OneFinish : Type 0
 OneFinish = (j : Joiner) → OneAnswer (λ r. r ≡ j .held)
@@ -176,4 +176,4 @@ abbrev pub OneMostEvents : Type 0
 OneMostEvents = (n k : ℕ) → OneAnswer (λ r. r ≡ mostEvents n k)
 
 abbrev pub OneWithPlace : Type 0
-OneWithPlace = (e : Event) (base : ℕ) → OneAnswer (λ r. r ≡ placing base e)
+OneWithPlace = (e : ParseEvent) (base : ℕ) → OneAnswer (λ r. r ≡ placing base e)

@@ -1,6 +1,6 @@
 // What users want of whole files: an event's place in the file, a joiner of payload parts, and how many events a queue must
 // hold. The grammar of a whole file and what feeding in packets gives stand in specs/, and the theorems on them in specs/Theorems.antt.
-use jxl_container::parse::Event;
+use jxl_container::parse::ParseEvent;
 ghost use mathlib.Core.Path.{_≡_};
 ghost use Prim.Native.Nat.{_+_, _^_, _<_};
 ghost use lib.Dec.{eqb, ltb};
@@ -9,25 +9,25 @@ ghost use Rattle.jxl_files.specs.Joiner.{adding, extends, mostEvents};
 ghost use Rattle.jxl_files.specs.Placing.{placing};
 
 // An event, or none.
-pub enum Held {
-    Nothing,
-    Waiting(Event),
+pub enum MaybeEvent {
+    None,
+    Some(ParseEvent),
 }
 
 // Joins payload parts that lie end to end. It takes events with places in the file, one at a time, and holds the newest.
 pub struct Joiner {
-    pub held: Held,
+    pub held: MaybeEvent,
 }
 
 // What adding an event hands back, and the joiner then.
 pub struct Added {
-    pub out: Held,
+    pub out: MaybeEvent,
     pub next: Joiner,
 }
 
 // An event with its place in the file, or a payload that would end behind 2^64 - 1.
 pub enum Placed {
-    At(Event),
+    At(ParseEvent),
     TooFar,
 }
 
@@ -42,102 +42,112 @@ fn ends_at(a: usize, n: usize, b: usize) -> bool
 }
 
 // Whether `event` is a part of a codestream that starts behind `n` bytes at `a`.
-fn code_at(a: usize, n: usize, event: Event) -> bool
+fn code_at(a: usize, n: usize, event: ParseEvent) -> bool
     ensures { λ r. ⌜ r ≡ Spec.codeAt (a + n) event ⌝ }
 {
     match event {
-        Event::Codestream { at, len: _ } => ends_at(a, n, at),
-        Event::Kind(_) => false,
-        Event::NoMoreAux => false,
-        Event::AuxStart {
+        ParseEvent::Codestream { at, len: _ } => ends_at(a, n, at),
+        ParseEvent::BitstreamKind(_) => false,
+        ParseEvent::NoMoreAuxBox => false,
+        ParseEvent::AuxBoxStart {
             ty: _,
-            brotli: _,
-            to_end: _,
+            brotli_compressed: _,
+            last_box: _,
         } => false,
-        Event::AuxData {
+        ParseEvent::AuxBoxData {
             ty: _,
             at: _,
             len: _,
         } => false,
-        Event::AuxEnd { ty: _ } => false,
+        ParseEvent::AuxBoxEnd { ty: _ } => false,
     }
 }
 
 // Whether `event` is a part of a side box of type `t` that starts behind `n` bytes at `a`.
-fn aux_at(t: u32, a: usize, n: usize, event: Event) -> bool
+fn aux_at(t: u32, a: usize, n: usize, event: ParseEvent) -> bool
     ensures { λ r. ⌜ r ≡ Spec.auxAt t (a + n) event ⌝ }
 {
     match event {
-        Event::AuxData { ty, at, len: _ } => { if t == ty { ends_at(a, n, at) } else { false } }
-        Event::Kind(_) => false,
-        Event::NoMoreAux => false,
-        Event::Codestream { at: _, len: _ } => false,
-        Event::AuxStart {
+        ParseEvent::AuxBoxData { ty, at, len: _ } => {
+            if t == ty { ends_at(a, n, at) } else { false }
+        }
+        ParseEvent::BitstreamKind(_) => false,
+        ParseEvent::NoMoreAuxBox => false,
+        ParseEvent::Codestream { at: _, len: _ } => false,
+        ParseEvent::AuxBoxStart {
             ty: _,
-            brotli: _,
-            to_end: _,
+            brotli_compressed: _,
+            last_box: _,
         } => false,
-        Event::AuxEnd { ty: _ } => false,
+        ParseEvent::AuxBoxEnd { ty: _ } => false,
     }
 }
 
 // Whether the two are parts of one payload, the second where the first ends.
-fn joins(first: Event, second: Event) -> bool
+fn joins(first: ParseEvent, second: ParseEvent) -> bool
     ensures { λ r. ⌜ r ≡ Spec.joins first second ⌝ }
 {
     match first {
-        Event::Codestream { at, len } => code_at(at, len, second),
-        Event::AuxData { ty, at, len } => aux_at(ty, at, len, second),
-        Event::Kind(_) => false,
-        Event::NoMoreAux => false,
-        Event::AuxStart {
+        ParseEvent::Codestream { at, len } => code_at(at, len, second),
+        ParseEvent::AuxBoxData { ty, at, len } => aux_at(ty, at, len, second),
+        ParseEvent::BitstreamKind(_) => false,
+        ParseEvent::NoMoreAuxBox => false,
+        ParseEvent::AuxBoxStart {
             ty: _,
-            brotli: _,
-            to_end: _,
+            brotli_compressed: _,
+            last_box: _,
         } => false,
-        Event::AuxEnd { ty: _ } => false,
+        ParseEvent::AuxBoxEnd { ty: _ } => false,
     }
 }
 
 // How many payload bytes the event shows.
-fn length_of(event: Event) -> usize
+fn length_of(event: ParseEvent) -> usize
     ensures { λ r. ⌜ r ≡ Spec.lengthOf event ⌝ }
 {
     match event {
-        Event::Codestream { at: _, len } => len,
-        Event::AuxData { ty: _, at: _, len } => len,
-        Event::Kind(_) => 0,
-        Event::NoMoreAux => 0,
-        Event::AuxStart {
+        ParseEvent::Codestream { at: _, len } => len,
+        ParseEvent::AuxBoxData { ty: _, at: _, len } => len,
+        ParseEvent::BitstreamKind(_) => 0,
+        ParseEvent::NoMoreAuxBox => 0,
+        ParseEvent::AuxBoxStart {
             ty: _,
-            brotli: _,
-            to_end: _,
+            brotli_compressed: _,
+            last_box: _,
         } => 0,
-        Event::AuxEnd { ty: _ } => 0,
+        ParseEvent::AuxBoxEnd { ty: _ } => 0,
     }
 }
 
 // A part with `m` bytes more.
-fn longer(m: usize, event: Event) -> Event
+fn longer(m: usize, event: ParseEvent) -> ParseEvent
     requires { ⌜ Spec.lengthOf event + m < 2 ^ 64 ⌝ }
     ensures { λ r. ⌜ r ≡ Spec.longer m event ⌝ }
 {
     match event {
-        Event::Codestream { at, len } => Event::Codestream { at, len: len + m },
-        Event::AuxData { ty, at, len } => Event::AuxData {
+        ParseEvent::Codestream { at, len } => ParseEvent::Codestream { at, len: len + m },
+        ParseEvent::AuxBoxData { ty, at, len } => ParseEvent::AuxBoxData {
             ty,
             at,
             len: len + m,
         },
-        Event::Kind(k) => Event::Kind(k),
-        Event::NoMoreAux => Event::NoMoreAux,
-        Event::AuxStart { ty, brotli, to_end } => Event::AuxStart { ty, brotli, to_end },
-        Event::AuxEnd { ty } => Event::AuxEnd { ty },
+        ParseEvent::BitstreamKind(k) => ParseEvent::BitstreamKind(k),
+        ParseEvent::NoMoreAuxBox => ParseEvent::NoMoreAuxBox,
+        ParseEvent::AuxBoxStart {
+            ty,
+            brotli_compressed: brotli,
+            last_box: to_end,
+        } => ParseEvent::AuxBoxStart {
+            ty,
+            brotli_compressed: brotli,
+            last_box: to_end,
+        },
+        ParseEvent::AuxBoxEnd { ty } => ParseEvent::AuxBoxEnd { ty },
     }
 }
 
 // Whether the two are one part, whose length fits.
-fn extends(first: Event, second: Event) -> bool
+fn extends(first: ParseEvent, second: ParseEvent) -> bool
     ensures { λ r. ⌜ r ≡ extends first second ⌝ }
 {
     if joins(first, second) {
@@ -148,21 +158,21 @@ fn extends(first: Event, second: Event) -> bool
 }
 
 // What adding `event` behind `held` does.
-fn put(held: Event, event: Event) -> Added
-    ensures { λ r. ⌜ r ≡ adding (Held.Waiting held) event ⌝ }
+fn put(held: ParseEvent, event: ParseEvent) -> Added
+    ensures { λ r. ⌜ r ≡ adding (MaybeEvent.Some held) event ⌝ }
 {
     if extends(held, event) {
         Added {
-            out: Held::Nothing,
+            out: MaybeEvent::None,
             next: Joiner {
-                held: Held::Waiting(longer(length_of(event), held)),
+                held: MaybeEvent::Some(longer(length_of(event), held)),
             },
         }
     } else {
         Added {
-            out: Held::Waiting(held),
+            out: MaybeEvent::Some(held),
             next: Joiner {
-                held: Held::Waiting(event),
+                held: MaybeEvent::Some(event),
             },
         }
     }
@@ -171,31 +181,31 @@ fn put(held: Event, event: Event) -> Added
 impl Joiner {
     // A joiner that holds nothing.
     pub fn new() -> Self
-        ensures { λ r. ⌜ r .held ≡ Held.Nothing ⌝ }
+        ensures { λ r. ⌜ r .held ≡ MaybeEvent.None ⌝ }
     {
         Joiner {
-            held: Held::Nothing,
+            held: MaybeEvent::None,
         }
     }
 
     // Adds an event; hands back the one held, if it is now known to be whole or if the joined length would not fit.
-    pub fn add(self, event: Event) -> Added
+    pub fn add(self, event: ParseEvent) -> Added
         ensures { λ r. ⌜ r ≡ adding (self .held) event ⌝ }
     {
         let held = self.held;
         match held {
-            Held::Nothing => Added {
-                out: Held::Nothing,
+            MaybeEvent::None => Added {
+                out: MaybeEvent::None,
                 next: Joiner {
-                    held: Held::Waiting(event),
+                    held: MaybeEvent::Some(event),
                 },
             },
-            Held::Waiting(first) => put(first, event),
+            MaybeEvent::Some(first) => put(first, event),
         }
     }
 
     // The event held, once no more will come.
-    pub fn finish(self) -> Held
+    pub fn finish(self) -> MaybeEvent
         ensures { λ r. ⌜ r ≡ self .held ⌝ }
     {
         self.held
@@ -223,20 +233,20 @@ fn fits(base: usize, a: usize, n: usize) -> bool
 }
 
 // The event of a step, whose input stands at `base` in the file, with its place in the file.
-pub fn with_place(event: Event, base: usize) -> Placed
+pub fn with_place(event: ParseEvent, base: usize) -> Placed
     ensures { λ r. ⌜ r ≡ placing base event ⌝ }
 {
     match event {
-        Event::Codestream { at, len } => {
+        ParseEvent::Codestream { at, len } => {
             if fits(base, at, len) {
-                Placed::At(Event::Codestream { at: base + at, len })
+                Placed::At(ParseEvent::Codestream { at: base + at, len })
             } else {
                 Placed::TooFar
             }
         }
-        Event::AuxData { ty, at, len } => {
+        ParseEvent::AuxBoxData { ty, at, len } => {
             if fits(base, at, len) {
-                Placed::At(Event::AuxData {
+                Placed::At(ParseEvent::AuxBoxData {
                     ty,
                     at: base + at,
                     len,
@@ -245,13 +255,17 @@ pub fn with_place(event: Event, base: usize) -> Placed
                 Placed::TooFar
             }
         }
-        Event::Kind(k) => Placed::At(Event::Kind(k)),
-        Event::NoMoreAux => Placed::At(Event::NoMoreAux),
-        Event::AuxStart { ty, brotli, to_end } => Placed::At(Event::AuxStart {
+        ParseEvent::BitstreamKind(k) => Placed::At(ParseEvent::BitstreamKind(k)),
+        ParseEvent::NoMoreAuxBox => Placed::At(ParseEvent::NoMoreAuxBox),
+        ParseEvent::AuxBoxStart {
             ty,
-            brotli,
-            to_end,
+            brotli_compressed: brotli,
+            last_box: to_end,
+        } => Placed::At(ParseEvent::AuxBoxStart {
+            ty,
+            brotli_compressed: brotli,
+            last_box: to_end,
         }),
-        Event::AuxEnd { ty } => Placed::At(Event::AuxEnd { ty }),
+        ParseEvent::AuxBoxEnd { ty } => Placed::At(ParseEvent::AuxBoxEnd { ty }),
     }
 }

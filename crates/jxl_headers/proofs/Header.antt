@@ -9,11 +9,11 @@ use lib.ListN.{length}
 use borrow.Author.Tests.{lt-ltb, le-ltb, eq-eqb, ne-eqb, ltb-true, ltb-false}
 use Rattle.jxl_headers.specs.Bytes.{if, be32, be64}
 use Rattle.jxl_headers.specs.Header.{Header, short, bad, box, headerOf, extended, ToldHeader, numbered}
-use Rattle.jxl_headers.specs.declared.Left.{Left}
-use Rattle.jxl_headers.specs.declared.Left.the-variants.{ToEnd, Bytes}
+use Rattle.jxl_headers.specs.declared.BytesLeft.{BytesLeft}
+use Rattle.jxl_headers.specs.declared.BytesLeft.the-variants.{ToEnd, Bytes}
 use Rattle.jxl_headers.specs.Refusals.{why}
-use Rattle.jxl_headers.specs.declared.Refusal.{Refusal}
-use Rattle.jxl_headers.specs.declared.Refusal.the-variants.{InvalidBox, ValidationFailed}
+use Rattle.jxl_headers.specs.declared.BoxRefusal.{BoxRefusal}
+use Rattle.jxl_headers.specs.declared.BoxRefusal.the-variants.{InvalidBox, ValidationFailed}
 
 module _ (s : List ℕ) where
   pub extended-short : length s < 16 → extended s ≡ short
@@ -93,14 +93,14 @@ header-sized s = there (ltb (length s) 8) refl
     there true e = omega (arith, ltb-true (length s) 8 e)
     there false e = short-size (eqb (be32 s 0) 1) (ltb-false (length s) 8 e)
 
-pub header-fits : (s : List ℕ) {t : ℕ} {l : Left} {n : ℕ} → headerOf s ≡ box t l n → (8 ≤ n) × (n ≤ length s)
+pub header-fits : (s : List ℕ) {t : ℕ} {l : BytesLeft} {n : ℕ} → headerOf s ≡ box t l n → (8 ≤ n) × (n ≤ length s)
 header-fits s e = rw e at (header-sized s)
 
 pub header-under : (s : List ℕ) → headerOf s ≡ short → length s < 16
 header-under s e = rw e at (header-sized s)
 
 -- the number and what is told say which refusal it is
-pub why-one : (r q : Refusal) → why r ≡ why q → r ≡ q
+pub why-one : (r q : BoxRefusal) → why r ≡ why q → r ≡ q
 why-one InvalidBox InvalidBox e = refl
 why-one InvalidBox ValidationFailed e = cc
 why-one ValidationFailed InvalidBox e = cc

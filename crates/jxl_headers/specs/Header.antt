@@ -5,10 +5,10 @@ use lib.Dec.{ltb, eqb}
 use lib.ListN.{length}
 use Rattle.jxl_headers.specs.Bytes.{if, be32, be64}
 use Rattle.jxl_headers.specs.Refusals.{Why, why}
-use Rattle.jxl_headers.specs.declared.Left.{Left}
-use Rattle.jxl_headers.specs.declared.Left.the-variants.{ToEnd, Bytes}
-use Rattle.jxl_headers.specs.declared.Refusal.{Refusal}
-use Rattle.jxl_headers.specs.declared.Refusal.the-variants.{InvalidBox}
+use Rattle.jxl_headers.specs.declared.BytesLeft.{BytesLeft}
+use Rattle.jxl_headers.specs.declared.BytesLeft.the-variants.{ToEnd, Bytes}
+use Rattle.jxl_headers.specs.declared.BoxRefusal.{BoxRefusal}
+use Rattle.jxl_headers.specs.declared.BoxRefusal.the-variants.{InvalidBox}
 use Rattle.jxl_headers.specs.declared.box_header.HeaderParseResult.{HeaderParseResult}
 use Rattle.jxl_headers.specs.declared.box_header.HeaderParseResult.the-variants.{Done, NeedMoreData, Refused}
 
@@ -16,9 +16,9 @@ use Rattle.jxl_headers.specs.declared.box_header.HeaderParseResult.the-v
 pub data Header : Type 0 where
   -- more bytes are needed
   short : Header
-  bad : Refusal → Header
+  bad : BoxRefusal → Header
   -- the type, how far the payload reaches, and the header's own size
-  box : ℕ → Left → ℕ → Header
+  box : ℕ → BytesLeft → ℕ → Header
 
 -- size 1: WANT until 16 bytes are there; then a 64-bit size, under 16 refusal 1, else payload size - 16
 unfoldable pub extended : List ℕ → Header
@@ -40,7 +40,7 @@ headerOf s =
 pub data ToldHeader : Type 0 where
   wants : ToldHeader
   refuses : Why → ToldHeader
-  reads : ℕ → Left → ℕ → ToldHeader
+  reads : ℕ → BytesLeft → ℕ → ToldHeader
 
 abbrev pub numbered : Header → ToldHeader
 numbered short = wants

@@ -2,19 +2,19 @@
 use mathlib.Core.Bool.{Bool, true, false}
 use Prim.Native.Nat.{ℕ, _-_}
 use lib.Dec.{ltb}
-use Rattle.jxl_headers.specs.declared.Left.{Left}
-use Rattle.jxl_headers.specs.declared.Left.the-variants.{ToEnd, Bytes}
+use Rattle.jxl_headers.specs.declared.BytesLeft.{BytesLeft}
+use Rattle.jxl_headers.specs.declared.BytesLeft.the-variants.{ToEnd, Bytes}
 
 -- the payload has fewer than n bytes
-abbrev pub under : ℕ → Left → Bool
+abbrev pub under : ℕ → BytesLeft → Bool
 under n ToEnd = false
 under n (Bytes m) = ltb m n
 
 -- the payload behind its first n bytes
-abbrev pub less : Left → ℕ → Left
+abbrev pub less : BytesLeft → ℕ → BytesLeft
 less ToEnd n = ToEnd
 less (Bytes m) n = Bytes (m - n)
 
-abbrev pub toEnd : Left → Bool
+abbrev pub toEnd : BytesLeft → Bool
 toEnd ToEnd = true
 toEnd (Bytes m) = false

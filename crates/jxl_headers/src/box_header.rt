@@ -1,6 +1,6 @@
 // One box header, after the Rust's container/box_header.rs.
-use crate::Left;
-use crate::Refusal;
+use crate::BoxRefusal;
+use crate::BytesLeft;
 ghost use mathlib.Core.Path.{_≡_};
 ghost use Prim.Native.Nat.{_+_, _≤_, _<_};
 ghost use lib.ListN.{getD, length};
@@ -36,7 +36,7 @@ pub const HDR_GAIN_MAP: u32 = 0x6a68676d;
 // A box's type and how far its payload reaches.
 pub struct ContainerBoxHeader {
     pub ty: u32,
-    pub box_size: Left,
+    pub box_size: BytesLeft,
 }
 
 // Result of reading a box header.
@@ -46,7 +46,7 @@ pub enum HeaderParseResult {
         header_size: usize,
     },
     NeedMoreData,
-    Refused(Refusal),
+    Refused(BoxRefusal),
 }
 
 // A byte as a wider number.
@@ -118,13 +118,13 @@ fn parse_extended(s: &[u8]) -> HeaderParseResult
     }
     let size = be64_at(s, 8);
     if size < 16 {
-        return HeaderParseResult::Refused(Refusal::InvalidBox);
+        return HeaderParseResult::Refused(BoxRefusal::InvalidBox);
     }
     let ty = be32_there(s, 4);
     HeaderParseResult::Done {
         header: ContainerBoxHeader {
             ty,
-            box_size: Left::Bytes(size - 16),
+            box_size: BytesLeft::Bytes(size - 16),
         },
         header_size: 16,
     }
@@ -146,18 +146,18 @@ pub fn parse_header(s: &[u8]) -> HeaderParseResult
         return HeaderParseResult::Done {
             header: ContainerBoxHeader {
                 ty,
-                box_size: Left::ToEnd,
+                box_size: BytesLeft::ToEnd,
             },
             header_size: 8,
         };
     }
     if size < 8 {
-        return HeaderParseResult::Refused(Refusal::InvalidBox);
+        return HeaderParseResult::Refused(BoxRefusal::InvalidBox);
     }
     HeaderParseResult::Done {
         header: ContainerBoxHeader {
             ty,
-            box_size: Left::Bytes((size - 8) as u64),
+            box_size: BytesLeft::Bytes((size - 8) as u64),
         },
         header_size: 8,
     }

@@ -6,39 +6,39 @@ pub mod box_header;
 pub mod consts;
 
 // How far a payload reaches: to the end of the file, or so many bytes more.
-pub enum Left {
+pub enum BytesLeft {
     ToEnd,
     Bytes(u64),
 }
 
 // Why a parser refuses. The number of each in the paper, and what it tells, is `why` of specs/Refusals.antt.
-pub enum Refusal {
+pub enum BoxRefusal {
     InvalidBox,
     ValidationFailed,
 }
 
-impl Left {
+impl BytesLeft {
     // Whether the payload has fewer than `n` bytes.
     pub fn under(self, n: u64) -> bool
         ensures { λ r. ⌜ r ≡ under n self ⌝ }
     {
         match self {
-            Left::ToEnd => false,
-            Left::Bytes(m) => m < n,
+            BytesLeft::ToEnd => false,
+            BytesLeft::Bytes(m) => m < n,
         }
     }
 
     // The payload behind its first `n` bytes.
-    pub fn less(self, n: u64) -> Left
+    pub fn less(self, n: u64) -> BytesLeft
         ensures { λ r. ⌜ r ≡ less self n ⌝ }
     {
         match self {
-            Left::ToEnd => Left::ToEnd,
-            Left::Bytes(m) => {
+            BytesLeft::ToEnd => BytesLeft::ToEnd,
+            BytesLeft::Bytes(m) => {
                 if m < n {
-                    Left::Bytes(0)
+                    BytesLeft::Bytes(0)
                 } else {
-                    Left::Bytes(m - n)
+                    BytesLeft::Bytes(m - n)
                 }
             }
         }
@@ -49,8 +49,8 @@ impl Left {
         ensures { λ r. ⌜ r ≡ toEnd self ⌝ }
     {
         match self {
-            Left::ToEnd => true,
-            Left::Bytes(_) => false,
+            BytesLeft::ToEnd => true,
+            BytesLeft::Bytes(_) => false,
         }
     }
 }

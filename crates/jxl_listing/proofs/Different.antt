@@ -8,11 +8,11 @@ use lib.ListN.{getD}
 use Rattle.jxl_headers.specs.Bytes.{if}
 use Rattle.jxl_container.specs.declared.BitstreamKind.{BitstreamKind}
 use Rattle.jxl_container.specs.declared.BitstreamKind.the-variants as K
-use Rattle.jxl_container.specs.declared.parse.Event.the-variants as E
+use Rattle.jxl_container.specs.declared.parse.ParseEvent.the-variants as E
 use Rattle.jxl_listing.specs.Lines.{kindWord, brobWord, endWord, stopWord, fields, InRange}
 use Rattle.jxl_listing.specs.Theorems.{NoTwoAlike}
-use Rattle.jxl_listing.specs.declared.Stop.{Stop}
-use Rattle.jxl_listing.specs.declared.Stop.the-variants.{Want, Refused1, Refused2}
+use Rattle.jxl_listing.specs.declared.StopWord.{StopWord}
+use Rattle.jxl_listing.specs.declared.StopWord.the-variants.{Want, Refused1, Refused2}
 use Rattle.jxl_listing.specs.declared.Line.{Line}
 use Rattle.jxl_listing.specs.declared.Line.the-variants.{Shown, Stopped}
 use Rattle.jxl_listing.proofs.Values.{value, decimal-value, type-value}
@@ -27,7 +27,7 @@ kindOf w =
     (if (eqb (letter w 0) 98) K.BareCodestream
     (if (eqb (letter w 0) 99) K.Container K.Invalid))
 
-abbrev stopOf : List ℕ → Stop
+abbrev stopOf : List ℕ → StopWord
 stopOf w = if (eqb (letter w 0) 119) Want (if (eqb (letter w 7) 49) Refused1 Refused2)
 
 abbrev field : List (List ℕ) → ℕ → List ℕ
@@ -45,12 +45,12 @@ mark fs = letter (field fs 0) 0 + letter (field fs 0) 2
 
 abbrev back : List (List ℕ) → Line
 back fs =
-    if (eqb (mark fs) 217) (Shown (E.Kind (kindOf (field fs 1))))
-    (if (eqb (mark fs) 219) (Shown E.NoMoreAux)
+    if (eqb (mark fs) 217) (Shown (E.BitstreamKind (kindOf (field fs 1))))
+    (if (eqb (mark fs) 219) (Shown E.NoMoreAuxBox)
     (if (eqb (mark fs) 199) (Shown (E.Codestream (numberOf fs 1) (numberOf fs 2)))
-    (if (eqb (mark fs) 212) (Shown (E.AuxStart (typeOf fs) (eqb (letter (field fs 2) 0) 98) (eqb (letter (field fs 3) 0) 116)))
-    (if (eqb (mark fs) 216) (Shown (E.AuxData (typeOf fs) (numberOf fs 2) (numberOf fs 3)))
-    (if (eqb (mark fs) 201) (Shown (E.AuxEnd (typeOf fs)))
+    (if (eqb (mark fs) 212) (Shown (E.AuxBoxStart (typeOf fs) (eqb (letter (field fs 2) 0) 98) (eqb (letter (field fs 3) 0) 116)))
+    (if (eqb (mark fs) 216) (Shown (E.AuxBoxData (typeOf fs) (numberOf fs 2) (numberOf fs 3)))
+    (if (eqb (mark fs) 201) (Shown (E.AuxBoxEnd (typeOf fs)))
     (Stopped (stopOf (field fs 1)) (numberOf fs 2)))))))
 
 kind-back : (k : BitstreamKind) → kindOf (kindWord k) ≡ k
@@ -67,18 +67,18 @@ end-back : (b : Bool) → eqb (letter (endWord b) 0) 116 ≡ b
 end-back true = refl
 end-back false = refl
 
-stop-back : (s : Stop) → stopOf (stopWord s) ≡ s
+stop-back : (s : StopWord) → stopOf (stopWord s) ≡ s
 stop-back Want = refl
 stop-back Refused1 = refl
 stop-back Refused2 = refl
 
 back-fields : (l : Line) → InRange l → back (fields l) ≡ l
-back-fields (Shown (E.Kind k)) h = cc (kind-back k)
-back-fields (Shown E.NoMoreAux) h = refl
+back-fields (Shown (E.BitstreamKind k)) h = cc (kind-back k)
+back-fields (Shown E.NoMoreAuxBox) h = refl
 back-fields (Shown (E.Codestream a n)) h = cc (decimal-value a, decimal-value n)
-back-fields (Shown (E.AuxStart t b e)) h = cc (type-value t h, brob-back b, end-back e)
-back-fields (Shown (E.AuxData t a n)) (h, g, i) = cc (type-value t h, decimal-value a, decimal-value n)
-back-fields (Shown (E.AuxEnd t)) h = cc (type-value t h)
+back-fields (Shown (E.AuxBoxStart t b e)) h = cc (type-value t h, brob-back b, end-back e)
+back-fields (Shown (E.AuxBoxData t a n)) (h, g, i) = cc (type-value t h, decimal-value a, decimal-value n)
+back-fields (Shown (E.AuxBoxEnd t)) h = cc (type-value t h)
 back-fields (Stopped s n) h = cc (stop-back s, decimal-value n)
 
 pub no-two-alike : NoTwoAlike

@@ -9,11 +9,11 @@ use borrow.Author.Tests.{lt-ltb, ltb-true}
 use Rattle.jxl_headers.specs.Bytes.{if, and}
 use Rattle.jxl_container.specs.declared.BitstreamKind.{BitstreamKind}
 use Rattle.jxl_container.specs.declared.BitstreamKind.the-variants as K
-use Rattle.jxl_container.specs.declared.parse.Event.the-variants as E
+use Rattle.jxl_container.specs.declared.parse.ParseEvent.the-variants as E
 use Rattle.jxl_listing.specs.Digits.{glyph, hexDigits, hex8, decimalIn, decimal}
 use Rattle.jxl_listing.specs.Lines.{kindWord, brobWord, endWord, stopWord, fields, rest, text}
-use Rattle.jxl_listing.specs.declared.Stop.{Stop}
-use Rattle.jxl_listing.specs.declared.Stop.the-variants.{Want, Refused1, Refused2}
+use Rattle.jxl_listing.specs.declared.StopWord.{StopWord}
+use Rattle.jxl_listing.specs.declared.StopWord.the-variants.{Want, Refused1, Refused2}
 use Rattle.jxl_listing.specs.declared.Line.{Line}
 use Rattle.jxl_listing.specs.declared.Line.the-variants.{Shown, Stopped}
 
@@ -83,18 +83,18 @@ end-clean : (b : Bool) → clean (endWord b) ≡ true
 end-clean true = refl
 end-clean false = refl
 
-stop-clean : (s : Stop) → clean (stopWord s) ≡ true
+stop-clean : (s : StopWord) → clean (stopWord s) ≡ true
 stop-clean Want = refl
 stop-clean Refused1 = refl
 stop-clean Refused2 = refl
 
 fields-clean : (l : Line) → allClean (fields l) ≡ true
-fields-clean (Shown (E.Kind k)) = both (kind-clean k) refl
-fields-clean (Shown E.NoMoreAux) = refl
+fields-clean (Shown (E.BitstreamKind k)) = both (kind-clean k) refl
+fields-clean (Shown E.NoMoreAuxBox) = refl
 fields-clean (Shown (E.Codestream a n)) = both (decimal-clean a) (both (decimal-clean n) refl)
-fields-clean (Shown (E.AuxStart t b e)) = both (type-clean t) (both (brob-clean b) (both (end-clean e) refl))
-fields-clean (Shown (E.AuxData t a n)) = both (type-clean t) (both (decimal-clean a) (both (decimal-clean n) refl))
-fields-clean (Shown (E.AuxEnd t)) = both (type-clean t) refl
+fields-clean (Shown (E.AuxBoxStart t b e)) = both (type-clean t) (both (brob-clean b) (both (end-clean e) refl))
+fields-clean (Shown (E.AuxBoxData t a n)) = both (type-clean t) (both (decimal-clean a) (both (decimal-clean n) refl))
+fields-clean (Shown (E.AuxBoxEnd t)) = both (type-clean t) refl
 fields-clean (Stopped s n) = both (stop-clean s) (both (decimal-clean n) refl)
 
 -- it starts with a tab or a line feed
@@ -137,12 +137,12 @@ rest-parted (f ∷ fs) (g ∷ gs) p q e =
 
 -- a line behind a tab
 behind-a-tab : (l : Line) → rest (fields l) ≡ 9 ∷ text l
-behind-a-tab (Shown (E.Kind k)) = refl
-behind-a-tab (Shown E.NoMoreAux) = refl
+behind-a-tab (Shown (E.BitstreamKind k)) = refl
+behind-a-tab (Shown E.NoMoreAuxBox) = refl
 behind-a-tab (Shown (E.Codestream a n)) = refl
-behind-a-tab (Shown (E.AuxStart t b e)) = refl
-behind-a-tab (Shown (E.AuxData t a n)) = refl
-behind-a-tab (Shown (E.AuxEnd t)) = refl
+behind-a-tab (Shown (E.AuxBoxStart t b e)) = refl
+behind-a-tab (Shown (E.AuxBoxData t a n)) = refl
+behind-a-tab (Shown (E.AuxBoxEnd t)) = refl
 behind-a-tab (Stopped s n) = refl
 
 -- lines of one text have the same fields

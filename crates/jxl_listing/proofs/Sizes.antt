@@ -8,12 +8,12 @@ use lib.ListN.{length, length-append}
 use Rattle.jxl_headers.specs.Bytes.{if}
 use Rattle.jxl_container.specs.declared.BitstreamKind.{BitstreamKind}
 use Rattle.jxl_container.specs.declared.BitstreamKind.the-variants as K
-use Rattle.jxl_container.specs.declared.parse.Event.the-variants as E
+use Rattle.jxl_container.specs.declared.parse.ParseEvent.the-variants as E
 use Rattle.jxl_listing.specs.Digits.{decimal}
 use Rattle.jxl_listing.specs.Lines.{kindWord, brobWord, endWord, stop, stopWord, rest, text}
 use Rattle.jxl_listing.specs.Theorems.{MostBytes, LeastBytes}
-use Rattle.jxl_listing.specs.declared.Stop.{Stop}
-use Rattle.jxl_listing.specs.declared.Stop.the-variants.{Want, Refused1, Refused2}
+use Rattle.jxl_listing.specs.declared.StopWord.{StopWord}
+use Rattle.jxl_listing.specs.declared.StopWord.the-variants.{Want, Refused1, Refused2}
 use Rattle.jxl_listing.specs.declared.Line.the-variants.{Shown, Stopped}
 use Rattle.jxl_listing.proofs.Numbers.{decimal-most, type-length}
 
@@ -37,7 +37,7 @@ end-most : (b : Bool) → length (endWord b) ≤ 7
 end-most true = omega arith
 end-most false = omega arith
 
-stop-most : (s : Stop) → length (stopWord s) ≤ 8
+stop-most : (s : StopWord) → length (stopWord s) ≤ 8
 stop-most Want = omega arith
 stop-most Refused1 = omega arith
 stop-most Refused2 = omega arith
@@ -51,13 +51,13 @@ pub end-either : (b : Bool) → if b (9 ∷ 116 ∷ 111 ∷ 101 ∷ 110 ∷ 100 
 end-either true = refl
 end-either false = refl
 
-pub start-size : (t : ℕ) (b e : Bool) → length (text (Shown (E.AuxStart t b e))) ≡ 17 + length (brobWord b) + length (endWord e)
+pub start-size : (t : ℕ) (b e : Bool) → length (text (Shown (E.AuxBoxStart t b e))) ≡ 17 + length (brobWord b) + length (endWord e)
 start-size t b e = simp length-append (omega (arith, type-length t))
 
-pub data-size : (t a n : ℕ) → length (text (Shown (E.AuxData t a n))) ≡ 16 + length (decimal a) + length (decimal n)
+pub data-size : (t a n : ℕ) → length (text (Shown (E.AuxBoxData t a n))) ≡ 16 + length (decimal a) + length (decimal n)
 data-size t a n = simp length-append (omega (arith, type-length t))
 
-pub end-size : (t : ℕ) → length (text (Shown (E.AuxEnd t))) ≡ 13
+pub end-size : (t : ℕ) → length (text (Shown (E.AuxBoxEnd t))) ≡ 13
 end-size t = simp length-append (omega (arith, type-length t))
 
 pub span-size : (a n : ℕ) → length (rest (decimal a ∷ decimal n ∷ [])) ≡ 3 + length (decimal a) + length (decimal n)
@@ -66,30 +66,30 @@ span-size a n = simp length-append (omega arith)
 pub code-size : (a n : ℕ) → length (text (Shown (E.Codestream a n))) ≡ 7 + length (decimal a) + length (decimal n)
 code-size a n = simp length-append (omega arith)
 
-pub stop-size : (s : Stop) (n : ℕ) → length (text (Stopped s n)) ≡ 7 + length (stopWord s) + length (decimal n)
+pub stop-size : (s : StopWord) (n : ℕ) → length (text (Stopped s n)) ≡ 7 + length (stopWord s) + length (decimal n)
 stop-size s n = simp length-append (omega arith)
 
 -- the start of a stop's line, and the whole of it
-pub stop-start-size : (s : Stop) → length (stop ++ (9 ∷ (stopWord s ++ (9 ∷ [])))) ≡ 6 + length (stopWord s)
+pub stop-start-size : (s : StopWord) → length (stop ++ (9 ∷ (stopWord s ++ (9 ∷ [])))) ≡ 6 + length (stopWord s)
 stop-start-size s = simp length-append (omega arith)
 
-pub stop-text : (s : Stop) (n : ℕ) → (stop ++ (9 ∷ (stopWord s ++ (9 ∷ [])))) ++ (decimal n ++ (10 ∷ [])) ≡ text (Stopped s n)
+pub stop-text : (s : StopWord) (n : ℕ) → (stop ++ (9 ∷ (stopWord s ++ (9 ∷ [])))) ++ (decimal n ++ (10 ∷ [])) ≡ text (Stopped s n)
 stop-text s n = simp append-assoc
 
 pub most-bytes : MostBytes
-most-bytes (Shown (E.Kind k)) h = simp length-append (omega (arith, kind-most k))
-most-bytes (Shown E.NoMoreAux) h = omega arith
+most-bytes (Shown (E.BitstreamKind k)) h = simp length-append (omega (arith, kind-most k))
+most-bytes (Shown E.NoMoreAuxBox) h = omega arith
 most-bytes (Shown (E.Codestream a n)) (h, g) = omega (arith, code-size a n, decimal-most a h, decimal-most n g)
-most-bytes (Shown (E.AuxStart t b e)) h = omega (arith, start-size t b e, brob-most b, end-most e)
-most-bytes (Shown (E.AuxData t a n)) (h, g, i) = omega (arith, data-size t a n, decimal-most a g, decimal-most n i)
-most-bytes (Shown (E.AuxEnd t)) h = omega (arith, end-size t)
+most-bytes (Shown (E.AuxBoxStart t b e)) h = omega (arith, start-size t b e, brob-most b, end-most e)
+most-bytes (Shown (E.AuxBoxData t a n)) (h, g, i) = omega (arith, data-size t a n, decimal-most a g, decimal-most n i)
+most-bytes (Shown (E.AuxBoxEnd t)) h = omega (arith, end-size t)
 most-bytes (Stopped s n) h = omega (arith, stop-size s n, stop-most s, decimal-most n h)
 
 pub least-bytes : LeastBytes
-least-bytes (Shown (E.Kind k)) = simp length-append (omega (arith, kind-least k))
-least-bytes (Shown E.NoMoreAux) = omega arith
+least-bytes (Shown (E.BitstreamKind k)) = simp length-append (omega (arith, kind-least k))
+least-bytes (Shown E.NoMoreAuxBox) = omega arith
 least-bytes (Shown (E.Codestream a n)) = omega (arith, code-size a n)
-least-bytes (Shown (E.AuxStart t b e)) = omega (arith, start-size t b e)
-least-bytes (Shown (E.AuxData t a n)) = omega (arith, data-size t a n)
-least-bytes (Shown (E.AuxEnd t)) = omega (arith, end-size t)
+least-bytes (Shown (E.AuxBoxStart t b e)) = omega (arith, start-size t b e)
+least-bytes (Shown (E.AuxBoxData t a n)) = omega (arith, data-size t a n)
+least-bytes (Shown (E.AuxBoxEnd t)) = omega (arith, end-size t)
 least-bytes (Stopped s n) = omega (arith, stop-size s n)

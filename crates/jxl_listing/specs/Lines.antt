@@ -7,11 +7,11 @@ use Rattle.jxl_headers.specs.Bytes.{if}
 use Rattle.jxl_headers.specs.Refusals.{Why, refusal}
 use Rattle.jxl_container.specs.declared.BitstreamKind.{BitstreamKind}
 use Rattle.jxl_container.specs.declared.BitstreamKind.the-variants as K
-use Rattle.jxl_container.specs.declared.parse.Event.{Event}
-use Rattle.jxl_container.specs.declared.parse.Event.the-variants as E
+use Rattle.jxl_container.specs.declared.parse.ParseEvent.{ParseEvent}
+use Rattle.jxl_container.specs.declared.parse.ParseEvent.the-variants as E
 use Rattle.jxl_listing.specs.Digits.{hex8, decimal}
-use Rattle.jxl_listing.specs.declared.Stop.{Stop}
-use Rattle.jxl_listing.specs.declared.Stop.the-variants.{Want, Refused1, Refused2}
+use Rattle.jxl_listing.specs.declared.StopWord.{StopWord}
+use Rattle.jxl_listing.specs.declared.StopWord.the-variants.{Want, Refused1, Refused2}
 use Rattle.jxl_listing.specs.declared.Line.{Line}
 use Rattle.jxl_listing.specs.declared.Line.the-variants.{Shown, Stopped}
 
@@ -61,23 +61,23 @@ endWord true = 116 ∷ 111 ∷ 101 ∷ 110 ∷ 100 ∷ []
 endWord false = 98 ∷ 111 ∷ 117 ∷ 110 ∷ 100 ∷ 101 ∷ 100 ∷ []
 
 -- `want`, `refused1` or `refused2`
-abbrev pub stopWord : Stop → List ℕ
+abbrev pub stopWord : StopWord → List ℕ
 stopWord Want = 119 ∷ 97 ∷ 110 ∷ 116 ∷ []
 stopWord Refused1 = 114 ∷ 101 ∷ 102 ∷ 117 ∷ 115 ∷ 101 ∷ 100 ∷ 49 ∷ []
 stopWord Refused2 = 114 ∷ 101 ∷ 102 ∷ 117 ∷ 115 ∷ 101 ∷ 100 ∷ 50 ∷ []
 
 -- what is printed of a refusal, by its number: 1 or 2, the only two there are
-abbrev pub printed : Why → Stop
+abbrev pub printed : Why → StopWord
 printed (refusal n told) = if (eqb n 1) Refused1 Refused2
 
 -- the fields of an event's line
-abbrev pub eventFields : Event → List (List ℕ)
-eventFields (E.Kind k) = kind ∷ kindWord k ∷ []
-eventFields E.NoMoreAux = nomore ∷ []
+abbrev pub eventFields : ParseEvent → List (List ℕ)
+eventFields (E.BitstreamKind k) = kind ∷ kindWord k ∷ []
+eventFields E.NoMoreAuxBox = nomore ∷ []
 eventFields (E.Codestream a n) = code ∷ decimal a ∷ decimal n ∷ []
-eventFields (E.AuxStart t b e) = start ∷ hex8 t ∷ brobWord b ∷ endWord e ∷ []
-eventFields (E.AuxData t a n) = part ∷ hex8 t ∷ decimal a ∷ decimal n ∷ []
-eventFields (E.AuxEnd t) = end ∷ hex8 t ∷ []
+eventFields (E.AuxBoxStart t b e) = start ∷ hex8 t ∷ brobWord b ∷ endWord e ∷ []
+eventFields (E.AuxBoxData t a n) = part ∷ hex8 t ∷ decimal a ∷ decimal n ∷ []
+eventFields (E.AuxBoxEnd t) = end ∷ hex8 t ∷ []
 
 -- the fields of a line; the last number of a stop is the bytes consumed
 abbrev pub fields : Line → List (List ℕ)
@@ -99,13 +99,13 @@ abbrev pub text : Line → List ℕ
 text l = joinedFields (fields l)
 
 -- an event's types fit 32 bits and its numbers 64, as those of the code do
-abbrev pub EventInRange : Event → Type 0
-EventInRange (E.Kind k) = Unit {0}
-EventInRange E.NoMoreAux = Unit {0}
+abbrev pub EventInRange : ParseEvent → Type 0
+EventInRange (E.BitstreamKind k) = Unit {0}
+EventInRange E.NoMoreAuxBox = Unit {0}
 EventInRange (E.Codestream a n) = (a < 2 ^ 64) × (n < 2 ^ 64)
-EventInRange (E.AuxStart t b e) = t < 2 ^ 32
-EventInRange (E.AuxData t a n) = (t < 2 ^ 32) × (a < 2 ^ 64) × (n < 2 ^ 64)
-EventInRange (E.AuxEnd t) = t < 2 ^ 32
+EventInRange (E.AuxBoxStart t b e) = t < 2 ^ 32
+EventInRange (E.AuxBoxData t a n) = (t < 2 ^ 32) × (a < 2 ^ 64) × (n < 2 ^ 64)
+EventInRange (E.AuxBoxEnd t) = t < 2 ^ 32
 
 abbrev pub InRange : Line → Type 0
 InRange (Shown e) = EventInRange e

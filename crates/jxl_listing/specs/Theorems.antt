@@ -5,7 +5,7 @@ use Prim.Native.Nat.{ℕ, _≤_}
 use lib.ListN.{length}
 use Rattle.jxl_base.specs.OneAnswer.{OneAnswer, OneAnswerAndBuffer}
 use Rattle.jxl_headers.specs.Refusals.{why}
-use Rattle.jxl_headers.specs.declared.Refusal.{Refusal}
+use Rattle.jxl_headers.specs.declared.BoxRefusal.{BoxRefusal}
 use Rattle.jxl_listing.specs.Lines.{printed, text, InRange}
 use Rattle.jxl_listing.specs.Putting.{leaves, putOf}
 use Rattle.jxl_listing.specs.declared.Line.{Line}
@@ -30,4 +30,4 @@ abbrev pub OneLineLength : Type 0
 OneLineLength = (l : Line) → OneAnswer (λ r. r ≡ length (text l))
 
 abbrev pub OneRefused : Type 0
-OneRefused = (w : Refusal) → OneAnswer (λ r. r ≡ printed (why w))
+OneRefused = (w : BoxRefusal) → OneAnswer (λ r. r ≡ printed (why w))

@@ -1,7 +1,7 @@
 // The lines of the listing: the bytes of one line, put into a lent buffer. The format stands in specs/Lines.antt.
 use jxl_container::BitstreamKind;
-use jxl_container::Refusal;
-use jxl_container::parse::Event;
+use jxl_container::BoxRefusal;
+use jxl_container::parse::ParseEvent;
 ghost use mathlib.Core.Path.{_≡_};
 ghost use mathlib.Core.List.{[], _∷_, _++_};
 ghost use Prim.Native.Nat.{_+_, _≤_};
@@ -15,28 +15,28 @@ ghost use Rattle.jxl_listing.specs.Putting.{leaves, putOf, Pasted};
 mod field;
 
 // Why a listing ends, as it is printed: more is wanted, or a refusal by its number in the paper.
-pub enum Stop {
+pub enum StopWord {
     Want,
     Refused1,
     Refused2,
 }
 
-impl Stop {
+impl StopWord {
     // What is printed of a refusal.
-    pub fn refused(refusal: Refusal) -> Stop
+    pub fn refused(refusal: BoxRefusal) -> StopWord
         ensures { λ r. ⌜ r ≡ printed (why refusal) ⌝ }
     {
         match refusal {
-            Refusal::InvalidBox => Stop::Refused1,
-            Refusal::ValidationFailed => Stop::Refused2,
+            BoxRefusal::InvalidBox => StopWord::Refused1,
+            BoxRefusal::ValidationFailed => StopWord::Refused2,
         }
     }
 }
 
 // One record of the listing: a joined event with its place in the file, or the stop with the bytes consumed.
 pub enum Line {
-    Shown(Event),
-    Stopped { stop: Stop, consumed: usize },
+    Shown(ParseEvent),
+    Stopped { stop: StopWord, consumed: usize },
 }
 
 // Where the next line goes; or how many bytes the line that did not fit has.
@@ -47,8 +47,8 @@ pub enum Put {
 
 // What the file is.
 fn kind_line(out: &mut [u8], at: usize, kind: BitstreamKind) -> usize
-    requires { ⌜ at + length (text (Line.Shown (Event.Kind kind))) ≤ length (now out) ⌝ }
-    ensures { λ r. ⌜ Pasted (now (out .entry)) at (text (Line.Shown (Event.Kind kind))) (now (out .exit)) r ⌝ }
+    requires { ⌜ at + length (text (Line.Shown (ParseEvent.BitstreamKind kind))) ≤ length (now out) ⌝ }
+    ensures { λ r. ⌜ Pasted (now (out .entry)) at (text (Line.Shown (ParseEvent.BitstreamKind kind))) (now (out .exit)) r ⌝ }
 {
     match kind {
         BitstreamKind::Unknown => field::copy_in(out, at, b"kind\tunknown\n"),
@@ -60,8 +60,8 @@ fn kind_line(out: &mut [u8], at: usize, kind: BitstreamKind) -> usize
 
 // A side box starts.
 fn start_line(out: &mut [u8], at: usize, ty: u32, brotli: bool, to_end: bool) -> usize
-    requires { ⌜ at + length (text (Line.Shown (Event.AuxStart ty brotli «to_end»))) ≤ length (now out) ⌝ }
-    ensures { λ r. ⌜ Pasted (now (out .entry)) at (text (Line.Shown (Event.AuxStart ty brotli «to_end»))) (now (out .exit)) r ⌝ }
+    requires { ⌜ at + length (text (Line.Shown (ParseEvent.AuxBoxStart ty brotli «to_end»))) ≤ length (now out) ⌝ }
+    ensures { λ r. ⌜ Pasted (now (out .entry)) at (text (Line.Shown (ParseEvent.AuxBoxStart ty brotli «to_end»))) (now (out .exit)) r ⌝ }
 {
     let a = field::copy_in(out, at, b"start\t");
     let b = field::put_type(out, a, ty);
@@ -83,8 +83,8 @@ fn put_span(out: &mut [u8], at: usize, place: usize, len: usize) -> usize
 
 // A part of a side box, at its place in the file.
 fn data_line(out: &mut [u8], at: usize, ty: u32, place: usize, len: usize) -> usize
-    requires { ⌜ at + length (text (Line.Shown (Event.AuxData ty place len))) ≤ length (now out) ⌝ }
-    ensures { λ r. ⌜ Pasted (now (out .entry)) at (text (Line.Shown (Event.AuxData ty place len))) (now (out .exit)) r ⌝ }
+    requires { ⌜ at + length (text (Line.Shown (ParseEvent.AuxBoxData ty place len))) ≤ length (now out) ⌝ }
+    ensures { λ r. ⌜ Pasted (now (out .entry)) at (text (Line.Shown (ParseEvent.AuxBoxData ty place len))) (now (out .exit)) r ⌝ }
 {
     let a = field::copy_in(out, at, b"data\t");
     let b = field::put_type(out, a, ty);
@@ -93,8 +93,8 @@ fn data_line(out: &mut [u8], at: usize, ty: u32, place: usize, len: usize) -> us
 
 // A side box ends.
 fn end_line(out: &mut [u8], at: usize, ty: u32) -> usize
-    requires { ⌜ at + length (text (Line.Shown (Event.AuxEnd ty))) ≤ length (now out) ⌝ }
-    ensures { λ r. ⌜ Pasted (now (out .entry)) at (text (Line.Shown (Event.AuxEnd ty))) (now (out .exit)) r ⌝ }
+    requires { ⌜ at + length (text (Line.Shown (ParseEvent.AuxBoxEnd ty))) ≤ length (now out) ⌝ }
+    ensures { λ r. ⌜ Pasted (now (out .entry)) at (text (Line.Shown (ParseEvent.AuxBoxEnd ty))) (now (out .exit)) r ⌝ }
 {
     let a = field::copy_in(out, at, b"end\t");
     let b = field::put_type(out, a, ty);
@@ -103,27 +103,27 @@ fn end_line(out: &mut [u8], at: usize, ty: u32) -> usize
 
 // A part of the codestream, at its place in the file.
 fn code_line(out: &mut [u8], at: usize, place: usize, len: usize) -> usize
-    requires { ⌜ at + length (text (Line.Shown (Event.Codestream place len))) ≤ length (now out) ⌝ }
-    ensures { λ r. ⌜ Pasted (now (out .entry)) at (text (Line.Shown (Event.Codestream place len))) (now (out .exit)) r ⌝ }
+    requires { ⌜ at + length (text (Line.Shown (ParseEvent.Codestream place len))) ≤ length (now out) ⌝ }
+    ensures { λ r. ⌜ Pasted (now (out .entry)) at (text (Line.Shown (ParseEvent.Codestream place len))) (now (out .exit)) r ⌝ }
 {
     let a = field::copy_in(out, at, b"code");
     put_span(out, a, place, len)
 }
 
 // Why the listing ends: the start of a line.
-fn put_stop(out: &mut [u8], at: usize, stop: Stop) -> usize
+fn put_stop(out: &mut [u8], at: usize, stop: StopWord) -> usize
     requires { ⌜ at + length (Lines.stop ++ (9 ∷ (stopWord stop ++ (9 ∷ [])))) ≤ length (now out) ⌝ }
     ensures { λ r. ⌜ Pasted (now (out .entry)) at (Lines.stop ++ (9 ∷ (stopWord stop ++ (9 ∷ [])))) (now (out .exit)) r ⌝ }
 {
     match stop {
-        Stop::Want => field::copy_in(out, at, b"stop\twant\t"),
-        Stop::Refused1 => field::copy_in(out, at, b"stop\trefused1\t"),
-        Stop::Refused2 => field::copy_in(out, at, b"stop\trefused2\t"),
+        StopWord::Want => field::copy_in(out, at, b"stop\twant\t"),
+        StopWord::Refused1 => field::copy_in(out, at, b"stop\trefused1\t"),
+        StopWord::Refused2 => field::copy_in(out, at, b"stop\trefused2\t"),
     }
 }
 
 // Where the listing ends, and why.
-fn stop_line(out: &mut [u8], at: usize, stop: Stop, consumed: usize) -> usize
+fn stop_line(out: &mut [u8], at: usize, stop: StopWord, consumed: usize) -> usize
     requires { ⌜ at + length (text (Line.Stopped stop consumed)) ≤ length (now out) ⌝ }
     ensures { λ r. ⌜ Pasted (now (out .entry)) at (text (Line.Stopped stop consumed)) (now (out .exit)) r ⌝ }
 {
@@ -139,12 +139,16 @@ fn write_line(out: &mut [u8], at: usize, line: Line) -> usize
 {
     match line {
         Line::Shown(event) => match event {
-            Event::Kind(kind) => kind_line(out, at, kind),
-            Event::NoMoreAux => field::copy_in(out, at, b"nomore\n"),
-            Event::Codestream { at: place, len } => code_line(out, at, place, len),
-            Event::AuxStart { ty, brotli, to_end } => start_line(out, at, ty, brotli, to_end),
-            Event::AuxData { ty, at: place, len } => data_line(out, at, ty, place, len),
-            Event::AuxEnd { ty } => end_line(out, at, ty),
+            ParseEvent::BitstreamKind(kind) => kind_line(out, at, kind),
+            ParseEvent::NoMoreAuxBox => field::copy_in(out, at, b"nomore\n"),
+            ParseEvent::Codestream { at: place, len } => code_line(out, at, place, len),
+            ParseEvent::AuxBoxStart {
+                ty,
+                brotli_compressed: brotli,
+                last_box: to_end,
+            } => start_line(out, at, ty, brotli, to_end),
+            ParseEvent::AuxBoxData { ty, at: place, len } => data_line(out, at, ty, place, len),
+            ParseEvent::AuxBoxEnd { ty } => end_line(out, at, ty),
         },
         Line::Stopped { stop, consumed } => stop_line(out, at, stop, consumed),
     }
@@ -156,18 +160,18 @@ pub fn line_length(line: Line) -> usize
 {
     match line {
         Line::Shown(event) => match event {
-            Event::Kind(kind) => match kind {
+            ParseEvent::BitstreamKind(kind) => match kind {
                 BitstreamKind::Unknown => 13,
                 BitstreamKind::BareCodestream => 10,
                 BitstreamKind::Container => 15,
                 BitstreamKind::Invalid => 13,
             },
-            Event::NoMoreAux => 7,
-            Event::Codestream { at, len } => 7 + field::digits(at) + field::digits(len),
-            Event::AuxStart {
+            ParseEvent::NoMoreAuxBox => 7,
+            ParseEvent::Codestream { at, len } => 7 + field::digits(at) + field::digits(len),
+            ParseEvent::AuxBoxStart {
                 ty: _,
-                brotli,
-                to_end,
+                brotli_compressed: brotli,
+                last_box: to_end,
             } => {
                 if brotli {
                     if to_end { 26 } else { 28 }
@@ -175,13 +179,15 @@ pub fn line_length(line: Line) -> usize
                     if to_end { 27 } else { 29 }
                 }
             }
-            Event::AuxData { ty: _, at, len } => 16 + field::digits(at) + field::digits(len),
-            Event::AuxEnd { ty: _ } => 13,
+            ParseEvent::AuxBoxData { ty: _, at, len } => 16
+                + field::digits(at)
+                + field::digits(len),
+            ParseEvent::AuxBoxEnd { ty: _ } => 13,
         },
         Line::Stopped { stop, consumed } => match stop {
-            Stop::Want => 11 + field::digits(consumed),
-            Stop::Refused1 => 15 + field::digits(consumed),
-            Stop::Refused2 => 15 + field::digits(consumed),
+            StopWord::Want => 11 + field::digits(consumed),
+            StopWord::Refused1 => 15 + field::digits(consumed),
+            StopWord::Refused2 => 15 + field::digits(consumed),
         },
     }
 }

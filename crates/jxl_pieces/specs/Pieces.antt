@@ -8,8 +8,8 @@ use Rattle.jxl_headers.specs.Refusals.{refusal}
 use Rattle.jxl_headers.specs.Signature.{signatureOf, containerSig}
 use Rattle.jxl_headers.specs.Header.{headerOf, extended}
 use Rattle.jxl_container.specs.declared.BitstreamKind.the-variants as K
-use Rattle.jxl_container.specs.declared.parse.Event.{Event}
-use Rattle.jxl_container.specs.declared.parse.Event.the-variants as E
+use Rattle.jxl_container.specs.declared.parse.ParseEvent.{ParseEvent}
+use Rattle.jxl_container.specs.declared.parse.ParseEvent.the-variants as E
 use Rattle.jxl_files.specs.Grammar.{Listing, Stop, want, refused, file, boxes}
 use Rattle.jxl_bits.specs.Answer.{gives}
 use Rattle.jxl_bits.specs.Bits.{number, bits}
@@ -42,7 +42,7 @@ exifType = 0x45786966
 abbrev pub S : List ℕ → List ℕ
 S s = containerSig ++ s
 
-abbrev pub says : List Event → ℕ → Stop → Listing
+abbrev pub says : List ParseEvent → ℕ → Stop → Listing
 says es n w = record { events = es; consumed = n; stop = w }
 
 pub data Piece : Type 0 where
@@ -67,23 +67,23 @@ table =
     lists [] (says [] 0 want)
     ∷ lists (0xff ∷ []) (says [] 0 want)
     -- FF 0A: KIND bare, NO_MORE_AUX, CODESTREAM of 2 bytes
-    ∷ lists (0xff ∷ 0x0a ∷ []) (says (E.Kind K.BareCodestream ∷ E.NoMoreAux ∷ E.Codestream 0 2 ∷ []) 2 want)
+    ∷ lists (0xff ∷ 0x0a ∷ []) (says (E.BitstreamKind K.BareCodestream ∷ E.NoMoreAuxBox ∷ E.Codestream 0 2 ∷ []) 2 want)
     -- 01: KIND invalid, NO_MORE_AUX, CODESTREAM of 1 byte
-    ∷ lists (0x01 ∷ []) (says (E.Kind K.Invalid ∷ E.NoMoreAux ∷ E.Codestream 0 1 ∷ []) 1 want)
+    ∷ lists (0x01 ∷ []) (says (E.BitstreamKind K.Invalid ∷ E.NoMoreAuxBox ∷ E.Codestream 0 1 ∷ []) 1 want)
     -- S, 00 00 00 08 jxlc: KIND only, 20 consumed. One 00 more: an empty CODESTREAM, then WANT with 1 unread
-    ∷ lists (S (header 8 jxlc)) (says (E.Kind K.Container ∷ []) 20 want)
-    ∷ lists (S (header 8 jxlc ++ (0 ∷ []))) (says (E.Kind K.Container ∷ E.Codestream 20 0 ∷ []) 20 want)
+    ∷ lists (S (header 8 jxlc)) (says (E.BitstreamKind K.Container ∷ []) 20 want)
+    ∷ lists (S (header 8 jxlc ++ (0 ∷ []))) (says (E.BitstreamKind K.Container ∷ E.Codestream 20 0 ∷ []) 20 want)
     -- S, 00 00 00 07 Exif: refusal 1, 12 consumed. Size 8: AUX_START
-    ∷ lists (S (header 7 exif)) (says (E.Kind K.Container ∷ []) 12 (refused (refusal 1 [])))
-    ∷ lists (S (header 8 exif)) (says (E.Kind K.Container ∷ E.AuxStart exifType false false ∷ []) 20 want)
+    ∷ lists (S (header 7 exif)) (says (E.BitstreamKind K.Container ∷ []) 12 (refused (refusal 1 [])))
+    ∷ lists (S (header 8 exif)) (says (E.BitstreamKind K.Container ∷ E.AuxBoxStart exifType false false ∷ []) 20 want)
     -- S, jxlp of size 11: refusal 1, 20 consumed. Size 12, first index 1: refusal 1, 24 consumed. Index 80 00 00 00: accepted, last
-    ∷ lists (S (header 11 jxlp)) (says (E.Kind K.Container ∷ []) 20 (refused (refusal 1 [])))
-    ∷ lists (S (header 12 jxlp ++ (0 ∷ 0 ∷ 0 ∷ 1 ∷ []))) (says (E.Kind K.Container ∷ []) 24 (refused (refusal 1 [])))
-    ∷ lists (S (header 12 jxlp ++ (0x80 ∷ 0 ∷ 0 ∷ 0 ∷ []))) (says (E.Kind K.Container ∷ []) 24 want)
-    ∷ lists (S (header 12 jxlp ++ (0x80 ∷ 0 ∷ 0 ∷ 0 ∷ header 12 jxlp))) (says (E.Kind K.Container ∷ E.Codestream 24 0 ∷ []) 32 (refused (refusal 1 [])))
+    ∷ lists (S (header 11 jxlp)) (says (E.BitstreamKind K.Container ∷ []) 20 (refused (refusal 1 [])))
+    ∷ lists (S (header 12 jxlp ++ (0 ∷ 0 ∷ 0 ∷ 1 ∷ []))) (says (E.BitstreamKind K.Container ∷ []) 24 (refused (refusal 1 [])))
+    ∷ lists (S (header 12 jxlp ++ (0x80 ∷ 0 ∷ 0 ∷ 0 ∷ []))) (says (E.BitstreamKind K.Container ∷ []) 24 want)
+    ∷ lists (S (header 12 jxlp ++ (0x80 ∷ 0 ∷ 0 ∷ 0 ∷ header 12 jxlp))) (says (E.BitstreamKind K.Container ∷ E.Codestream 24 0 ∷ []) 32 (refused (refusal 1 [])))
     -- brob of size 12 with jxlc inside: refusal 2, 24 consumed. With Exif: AUX_START
-    ∷ lists (S (header 12 brob ++ jxlc)) (says (E.Kind K.Container ∷ []) 24 (refused (refusal 2 [])))
-    ∷ lists (S (header 12 brob ++ exif)) (says (E.Kind K.Container ∷ E.AuxStart exifType true false ∷ []) 24 want)
+    ∷ lists (S (header 12 brob ++ jxlc)) (says (E.BitstreamKind K.Container ∷ []) 24 (refused (refusal 2 [])))
+    ∷ lists (S (header 12 brob ++ exif)) (says (E.BitstreamKind K.Container ∷ E.AuxBoxStart exifType true false ∷ []) 24 want)
     -- byte 32 hex, U32 of 1, 2 bits, 3 + 4 bits, 19 + 8 bits: 15
     ∷ readsU32 (0x32 ∷ []) (Constant 1 ∷ BitsOffset 0 2 ∷ BitsOffset 3 4 ∷ BitsOffset 19 8 ∷ []) 15 6
     -- ten bytes FF, U64: 2^64 - 1 after 73 bits

@@ -1,11 +1,11 @@
 // Lists a stream: reads it in blocks of at most 64 KiB, and writes the lines of each turn at once, joined across reads.
 use jxl_container::ContainerParser;
-use jxl_files::Held;
 use jxl_files::Joiner;
+use jxl_files::MaybeEvent;
 use jxl_listing::Line;
 use jxl_listing::Put;
-use jxl_listing::Stop;
-use jxl_turns::End;
+use jxl_listing::StopWord;
+use jxl_turns::TurnEnd;
 ghost use mathlib.Core.Path.{_≡_};
 ghost use Prim.Native.Nat.{min};
 ghost use lib.ListN.{length};
@@ -73,8 +73,8 @@ fn put(out: &mut [u8], at: usize, line: Line) -> usize {
 // Writes the line of the event that the joiner still holds, and answers whether it could.
 fn write_held(joiner: Joiner, out: &mut [u8]) -> bool {
     match joiner.finish() {
-        Held::Nothing => true,
-        Held::Waiting(event) => {
+        MaybeEvent::None => true,
+        MaybeEvent::Some(event) => {
             let end = put(out, 0, Line::Shown(event));
             io::write_all(libc::STDOUT_FILENO, part(out, 0, end))
         }
@@ -82,7 +82,7 @@ fn write_held(joiner: Joiner, out: &mut [u8]) -> bool {
 }
 
 // Writes what is left: the line of the event held, then the stop's.
-fn write_stop(joiner: Joiner, out: &mut [u8], stop: Stop, consumed: usize) {
+fn write_stop(joiner: Joiner, out: &mut [u8], stop: StopWord, consumed: usize) {
     if write_held(joiner, out) {
         let end = put(out, 0, Line::Stopped { stop, consumed });
         io::write_all(libc::STDOUT_FILENO, part(out, 0, end));
@@ -115,7 +115,7 @@ fn read_more(l: Listing, fd: i32, buf: &mut [u8], out: &mut [u8]) -> Listing {
         return over(l);
     }
     if got == 0 {
-        write_stop(joiner, out, Stop::Want, l.base);
+        write_stop(joiner, out, StopWord::Want, l.base);
         return over(l);
     }
     Listing {
@@ -152,19 +152,19 @@ fn take_turn(l: Listing, buf: &[u8], out: &mut [u8]) -> Listing {
 }
 
 // What follows a turn.
-fn follow(joiner: Joiner, end: End, consumed: usize, out: &mut [u8]) -> Next {
+fn follow(joiner: Joiner, end: TurnEnd, consumed: usize, out: &mut [u8]) -> Next {
     match end {
-        End::Full => Next::Turn,
-        End::Stopped(stop) => follow_stop(joiner, stop, consumed, out),
-        End::TooFar => Next::Nothing,
+        TurnEnd::Full => Next::Turn,
+        TurnEnd::Stopped(stop) => follow_stop(joiner, stop, consumed, out),
+        TurnEnd::TooFar => Next::Nothing,
     }
 }
 
 // What follows the parser's stop. After a refusal the rest is written, and nothing more is read.
-fn follow_stop(joiner: Joiner, stop: Stop, consumed: usize, out: &mut [u8]) -> Next {
+fn follow_stop(joiner: Joiner, stop: StopWord, consumed: usize, out: &mut [u8]) -> Next {
     match stop {
-        Stop::Want => Next::Read,
-        Stop::Refused1 | Stop::Refused2 => {
+        StopWord::Want => Next::Read,
+        StopWord::Refused1 | StopWord::Refused2 => {
             write_stop(joiner, out, stop, consumed);
             Next::Nothing
         }

@@ -6,34 +6,34 @@ use native.Mathlib.Omega.{arith}
 use lib.ListN.{drop}
 use Rattle.jxl_container.specs.Step.{shifted}
 use Rattle.jxl_container.specs.declared.ContainerParser.{ContainerParser}
-use Rattle.jxl_container.specs.declared.parse.Event.{Event}
+use Rattle.jxl_container.specs.declared.parse.ParseEvent.{ParseEvent}
 use Rattle.jxl_files.specs.Feeding.{Seen, events, followed, placed, stops}
 use Rattle.jxl_files.specs.Feeding as Feeding
 use Rattle.jxl_files.specs.Grammar as G
 use Rattle.jxl_files.specs.Joiner.{adding, handed, run}
-use Rattle.jxl_files.specs.declared.Held.{Held}
+use Rattle.jxl_files.specs.declared.MaybeEvent.{MaybeEvent}
 use Rattle.jxl_files.proofs.Taking.{take-is}
 use Rattle.jxl_listing.specs.Lines.{text}
 use Rattle.jxl_listing.specs.declared.Line.the-variants as L
-use Rattle.jxl_listing.specs.declared.Stop.{Stop}
+use Rattle.jxl_listing.specs.declared.StopWord.{StopWord}
 use Rattle.jxl_turns.specs.Listed.{stopOf, texts}
 use Rattle.jxl_turns.specs.Theorems.{allShifted, Feeds, TurnFeeds, WholeTurnFeeds}
 use Rattle.jxl_turns.specs.Turned.{Turned, over, behind}
-use Rattle.jxl_turns.specs.declared.End.{End}
-use Rattle.jxl_turns.specs.declared.End.the-variants as End
+use Rattle.jxl_turns.specs.declared.TurnEnd.{TurnEnd}
+use Rattle.jxl_turns.specs.declared.TurnEnd.the-variants as TurnEnd
 use Rattle.jxl_turns.proofs.Text.{taken-shown}
 use Rattle.jxl_turns.proofs.Goes.{lineOf, heldThen, Goes, puts, lacks, waits, ends, goes, went, stopped-near}
 
-pub texts-append : (a b : List Event) → texts (a ++ b) ≡ texts a ++ texts b
+pub texts-append : (a b : List ParseEvent) → texts (a ++ b) ≡ texts a ++ texts b
 texts-append [] b = refl
 texts-append (e ∷ es) b = ap (λ (l : List ℕ). text (L.Shown e) ++ l) (texts-append es b) ∙ sym (append-assoc (text (L.Shown e)) (texts es) (texts b))
 
 -- at the stop the joiner hands back what it holds
-at-stop : (base : ℕ) (h : Held) (x : G.Stop) (q : ContainerParser) (k : ℕ) {w : Stop} {e : End} → w ≡ stopOf x → Feeds base h (stops x q k) w (over e q h k)
+at-stop : (base : ℕ) (h : MaybeEvent) (x : G.Stop) (q : ContainerParser) (k : ℕ) {w : StopWord} {e : TurnEnd} → w ≡ stopOf x → Feeds base h (stops x q k) w (over e q h k)
 at-stop base h x q k same = record { lines-are = refl; parser-is = refl; consumed-is = refl; stop-is = same }
 
 -- an event's line goes in front of the others, as the joiner hands it back first
-one-more : {base : ℕ} {h : Held} {w : Stop} {f : Seen} {t : Turned} (k : ℕ) (s : List ℕ) (d e : Event) → e ≡ shifted base (shifted k d) → Feeds base (heldThen h e) f w t
+one-more : {base : ℕ} {h : MaybeEvent} {w : StopWord} {f : Seen} {t : Turned} (k : ℕ) (s : List ℕ) (d e : ParseEvent) → e ≡ shifted base (shifted k d) → Feeds base (heldThen h e) f w t
     → Feeds base h (followed (placed k s d ∷ []) f) w (behind (lineOf h e) t)
 one-more {base} {h} {w} {f} {t} k s d e ev r =
     let l = lineOf h e in
@@ -43,24 +43,24 @@ one-more {base} {h} {w} {f} {t} k s d e ev r =
           append-assoc l (t .lines) (texts (handed (t .held)))
           ∙ ap (λ (x : List ℕ). l ++ x) (r .lines-are)
           ∙ sym (texts-append (handed (adding h e .out)) (run (heldThen h e) rest))
-          ∙ ap (λ (x : Event). texts (run h (x ∷ rest))) ev;
+          ∙ ap (λ (x : ParseEvent). texts (run h (x ∷ rest))) ev;
       parser-is = r .parser-is;
       consumed-is = r .consumed-is;
       stop-is = r .stop-is;
     }
 
-module _ (base : ℕ) (s : List ℕ) (w : Stop) where
+module _ (base : ℕ) (s : List ℕ) (w : StopWord) where
   -- what is to be proved of a turn from k on
-  abbrev FeedsFrom : ContainerParser → Held → ℕ → Turned → Type 0
-  FeedsFrom p h k t = t .end ≡ End.Stopped w → Feeds base h (Feeding.take p k (drop k s)) w t
+  abbrev FeedsFrom : ContainerParser → MaybeEvent → ℕ → Turned → Type 0
+  FeedsFrom p h k t = t .end ≡ TurnEnd.Stopped w → Feeds base h (Feeding.take p k (drop k s)) w t
 
   -- what the feed came to, put for it
-  taken : (p : ContainerParser) (h : Held) (k : ℕ) {t u : Turned} {f : Seen} → u ≡ t → Feeding.take p k (drop k s) ≡ f → (t .end ≡ End.Stopped w → Feeds base h f w t)
+  taken : (p : ContainerParser) (h : MaybeEvent) (k : ℕ) {t u : Turned} {f : Seen} → u ≡ t → Feeding.take p k (drop k s) ≡ f → (t .end ≡ TurnEnd.Stopped w → Feeds base h f w t)
       → FeedsFrom p h k u
   taken p h k {t} so came r =
       subst (FeedsFrom p h k) (sym so) (λ stop. subst (λ (f : Seen). Feeds base h f w t) (sym came) (r stop))
 
-  feeds : {room k : ℕ} {p : ContainerParser} {h : Held} {t : Turned} → Goes base s room p h k t → FeedsFrom p h k t
+  feeds : {room k : ℕ} {p : ContainerParser} {h : MaybeEvent} {t : Turned} → Goes base s room p h k t → FeedsFrom p h k t
   feeds {k = k} {p = p} {h = h} (puts {m = m} {c = c} {q = q} {t = t} {d = d} {e = e} st ev at fits so g) =
       taken p h k so (taken-shown p s k st ∙ ap (λ (x : ℕ). followed (placed k (drop k s) d ∷ []) (Feeding.take q x (drop x s))) (sym at))
       (λ stop. one-more k (drop k s) d e ev (feeds g stop))

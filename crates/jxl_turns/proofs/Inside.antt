@@ -11,8 +11,8 @@ use lib.Seq.{drop-length}
 use borrow.Author.Tests.{lt-leb, lt-ltb, eq-eqb, ltb-true, ltb-false, eqb-true}
 use Rattle.jxl_headers.specs.Bytes.{and}
 use Rattle.jxl_headers.specs.Reach.{under, less}
-use Rattle.jxl_headers.specs.declared.Left.{Left}
-use Rattle.jxl_headers.specs.declared.Left.the-variants.{ToEnd, Bytes}
+use Rattle.jxl_headers.specs.declared.BytesLeft.{BytesLeft}
+use Rattle.jxl_headers.specs.declared.BytesLeft.the-variants.{ToEnd, Bytes}
 use Rattle.jxl_container.specs.Record.{at, overIndex}
 use Rattle.jxl_container.specs.Step.{Told, shows, wants, shifted, inCode, codePart, stepOf}
 use Rattle.jxl_container.proofs.Step.{code-shows, step-empty}
@@ -21,62 +21,62 @@ use Rattle.jxl_container.specs.declared.JxlpIndexState.{JxlpIndexState}
 use Rattle.jxl_container.specs.declared.DetectState.{DetectState}
 use Rattle.jxl_container.specs.declared.DetectState.the-variants as D
 use Rattle.jxl_container.specs.declared.ContainerParser.{ContainerParser}
-use Rattle.jxl_container.specs.declared.parse.Event.{Event}
-use Rattle.jxl_container.specs.declared.parse.Event.the-variants as E
+use Rattle.jxl_container.specs.declared.parse.ParseEvent.{ParseEvent}
+use Rattle.jxl_container.specs.declared.parse.ParseEvent.the-variants as E
 use Rattle.jxl_files.specs.Joiner.{added, adding, handed}
 use Rattle.jxl_files.specs.declared.Added.{Added}
-use Rattle.jxl_files.specs.declared.Held.{Held}
-use Rattle.jxl_files.specs.declared.Held.the-variants.{Nothing, Waiting}
+use Rattle.jxl_files.specs.declared.MaybeEvent.{MaybeEvent}
+use Rattle.jxl_files.specs.declared.MaybeEvent.the-variants.{None, Some}
 use Rattle.jxl_files.specs.declared.Joiner.{Joiner}
 use Rattle.jxl_files.proofs.Cut.{step-code}
 use Rattle.jxl_files.proofs.Never.{never}
-use Rattle.jxl_listing.specs.declared.Stop.the-variants as S
+use Rattle.jxl_listing.specs.declared.StopWord.the-variants as S
 use Rattle.jxl_turns.specs.Listed.{texts}
 use Rattle.jxl_turns.specs.Turned as Spec
 use Rattle.jxl_turns.specs.Turned.{Turned, Leads, over, behind, turnFrom, turnOf}
 use Rattle.jxl_turns.specs.declared.AfterTurn.{AfterTurn}
-use Rattle.jxl_turns.specs.declared.End.the-variants as End
+use Rattle.jxl_turns.specs.declared.TurnEnd.the-variants as TurnEnd
 use Rattle.jxl_turns.specs.declared.Way.{Way}
 use Rattle.jxl_turns.specs.declared.Way.the-variants as W
 use Rattle.jxl_turns.proofs.Goes.{lineOf, Goes, puts, waits, came-to}
 use Rattle.jxl_turns.proofs.Turning.{leaving, finish, turn-near}
 
 -- a payload of which something is left behind n bytes shows all of them
-part-goes-on : (j : JxlpIndexState) (k : BitstreamKind) (l : Left) (n : ℕ) → under 1 (less l n) ≡ false
+part-goes-on : (j : JxlpIndexState) (k : BitstreamKind) (l : BytesLeft) (n : ℕ) → under 1 (less l n) ≡ false
     → codePart j k l n ≡ shows (E.Codestream 0 n) (inCode k (less l n) false j) n
 part-goes-on j k ToEnd n u = refl
 part-goes-on j k (Bytes m) n u = rw (lt-leb m n (omega (arith, ltb-false (m - n) 1 u)))
 
-less-none : (l : Left) → less l 0 ≡ l
+less-none : (l : BytesLeft) → less l 0 ≡ l
 less-none ToEnd = refl
 less-none (Bytes m) = ap Bytes (let z : m - 0 ≡ m = omega arith in z)
 
 -- the joiner holds the longer part, and hands nothing back
 grows-by : (a len n : ℕ) → len + n < 2 ^ 64
-    → adding (Waiting (E.Codestream a len)) (E.Codestream (a + len) n) ≡ added Nothing (Waiting (E.Codestream a (len + n)))
+    → adding (Some (E.Codestream a len)) (E.Codestream (a + len) n) ≡ added None (Some (E.Codestream a (len + n)))
 grows-by a len n f = rw (eq-eqb (a + len) (a + len) refl, lt-ltb (len + n) 18446744073709551616 f)
 
-module _ (a len room : ℕ) (k : BitstreamKind) (l : Left) (j : JxlpIndexState) (o : overIndex j ≡ false) where
+module _ (a len room : ℕ) (k : BitstreamKind) (l : BytesLeft) (j : JxlpIndexState) (o : overIndex j ≡ false) where
   abbrev left-in : ℕ → ContainerParser
   left-in n = inCode k (less l n) false j
 
   abbrev then : ℕ → Turned
-  then n = over (End.Stopped S.Want) (left-in n) (Waiting (E.Codestream a (len + n))) n
+  then n = over (TurnEnd.Stopped S.Want) (left-in n) (Some (E.Codestream a (len + n))) n
 
   goes-inside : (s : List ℕ) → under 1 (less l (length s)) ≡ false → len + length s < 2 ^ 64
-      → Goes (a + len) s room (inCode k l false j) (Waiting (E.Codestream a len)) 0 (then (length s))
+      → Goes (a + len) s room (inCode k l false j) (Some (E.Codestream a len)) 0 (then (length s))
   goes-inside [] u f =
       waits {k = 0} {c = 0} {q = inCode k l false j} (step-empty (inCode k l false j) refl)
-      (ap (λ (x : Left). over (End.Stopped S.Want) (inCode k x false j) (Waiting (E.Codestream a (len + 0))) 0) (less-none l)
-      ∙ ap (λ (x : ℕ). over (End.Stopped S.Want) (inCode k l false j) (Waiting (E.Codestream a x)) 0) (add-zero len))
+      (ap (λ (x : BytesLeft). over (TurnEnd.Stopped S.Want) (inCode k x false j) (Some (E.Codestream a (len + 0))) 0) (less-none l)
+      ∙ ap (λ (x : ℕ). over (TurnEnd.Stopped S.Want) (inCode k l false j) (Some (E.Codestream a x)) 0) (add-zero len))
   goes-inside (x ∷ xs) u f =
       let s = x ∷ xs in
       let n = length (x ∷ xs) in
-      let h = Waiting (E.Codestream a len) in
+      let h = Some (E.Codestream a len) in
       let e = E.Codestream (a + len) n in
       let st : stepOf (inCode k l false j) s ≡ shows (E.Codestream 0 n) (left-in n) n =
       step-code j o k l false s ∙ code-shows j k l s (omega arith) ∙ part-goes-on j k l n u in
-      let grown : adding h e ≡ added Nothing (Waiting (E.Codestream a (len + n))) = grows-by a len n f in
+      let grown : adding h e ≡ added None (Some (E.Codestream a (len + n))) = grows-by a len n f in
       let none : length (lineOf h e) ≡ 0 = ap (λ (y : Added). length (texts (handed (y .out)))) grown in
       let rest : stepOf (left-in n) (drop n s) ≡ wants (left-in n) 0 = ap (stepOf (left-in n)) (drop-length s) ∙ step-empty (left-in n) refl in
       puts {room = room} {left = room} {k = 0} {m = n} {c = n} {p = inCode k l false j} {q = left-in n} {h = h} {t = then n} {u = then n} {d = E.Codestream 0 n} {e = e} st
@@ -85,22 +85,22 @@ module _ (a len room : ℕ) (k : BitstreamKind) (l : Left) (j : JxlpIndexState) 
       (omega (arith, none))
       (ap (λ (y : Added). behind (texts (handed (y .out))) (then n)) (sym grown))
       (subst (λ (y : Added). Goes (a + len) s room (left-in n) (y .next .held) n (then n)) (sym grown)
-      (waits {k = n} {c = 0} {q = left-in n} rest (ap (over (End.Stopped S.Want) (left-in n) (Waiting (E.Codestream a (len + n)))) (sym (add-zero n)))))
+      (waits {k = n} {c = 0} {q = left-in n} rest (ap (over (TurnEnd.Stopped S.Want) (left-in n) (Some (E.Codestream a (len + n)))) (sym (add-zero n)))))
 
   pub turn-inside : (s : List ℕ) → under 1 (less l (length s)) ≡ false → len + length s < 2 ^ 64
-      → turnFrom (a + len) s room (inCode k l false j) (Waiting (E.Codestream a len)) 0 ≡ then (length s)
+      → turnFrom (a + len) s room (inCode k l false j) (Some (E.Codestream a len)) 0 ≡ then (length s)
   turn-inside s u f = came-to (a + len) s (omega arith) (goes-inside s u f)
 
 -- what the code tests, and what it makes
-pub leads-on : (p : ContainerParser) (a len n : ℕ) {k : BitstreamKind} {l then : Left} {pending : Bool} → p .state ≡ D.InCodestream k l pending → pending ≡ false
+pub leads-on : (p : ContainerParser) (a len n : ℕ) {k : BitstreamKind} {l then : BytesLeft} {pending : Bool} → p .state ≡ D.InCodestream k l pending → pending ≡ false
     → overIndex (p .jxlp) ≡ false → then ≡ less l n → under 1 then ≡ false → len + n < 2 ^ 64
-    → Leads (W.Short (inCode k then false (p .jxlp)) (record { held = Waiting (E.Codestream a (len + n)) })) p (Waiting (E.Codestream a len)) (a + len) n
+    → Leads (W.Short (inCode k then false (p .jxlp)) (record { held = Some (E.Codestream a (len + n)) })) p (Some (E.Codestream a len)) (a + len) n
 leads-on p a len n {k} {l} {then} st pd o th u f =
     λ (s : List ℕ) (room : ℕ) (e : length s ≡ n).
-    ap (λ (x : DetectState). turnFrom (a + len) s room (at x (p .jxlp)) (Waiting (E.Codestream a len)) 0) (st ∙ ap (D.InCodestream k l) pd)
+    ap (λ (x : DetectState). turnFrom (a + len) s room (at x (p .jxlp)) (Some (E.Codestream a len)) 0) (st ∙ ap (D.InCodestream k l) pd)
     ∙ turn-inside a len room k l (p .jxlp) o s (ap (λ (x : ℕ). under 1 (less l x)) e ∙ ap (under 1) (sym th) ∙ u) (omega (arith, e, f))
-    ∙ ap (λ (x : ℕ). over (End.Stopped S.Want) (inCode k (less l x) false (p .jxlp)) (Waiting (E.Codestream a (len + x))) x) e
-    ∙ ap (λ (x : Left). over (End.Stopped S.Want) (inCode k x false (p .jxlp)) (Waiting (E.Codestream a (len + n))) n) (sym th)
+    ∙ ap (λ (x : ℕ). over (TurnEnd.Stopped S.Want) (inCode k (less l x) false (p .jxlp)) (Some (E.Codestream a (len + x))) x) e
+    ∙ ap (λ (x : BytesLeft). over (TurnEnd.Stopped S.Want) (inCode k x false (p .jxlp)) (Some (E.Codestream a (len + n))) n) (sym th)
 
 both : (t u : Bool) → and t u ≡ true → (t ≡ true) × (u ≡ true)
 both true u e = (refl, e)
@@ -111,18 +111,18 @@ reach-is a len base n e t =
     let b = both (eqb (a + len) base) (ltb (len + n) 18446744073709551616) (sym e ∙ t) in
     (eqb-true (a + len) base (b .0), ltb-true (len + n) 18446744073709551616 (b .1))
 
-pub leads-from : (w : Way) (p : ContainerParser) (n a len : ℕ) {base : ℕ} {h : Held} {e : Event} → h ≡ Waiting e → e ≡ E.Codestream a len → a + len ≡ base
-    → Leads w p (Waiting (E.Codestream a len)) (a + len) n → Leads w p h base n
+pub leads-from : (w : Way) (p : ContainerParser) (n a len : ℕ) {base : ℕ} {h : MaybeEvent} {e : ParseEvent} → h ≡ Some e → e ≡ E.Codestream a len → a + len ≡ base
+    → Leads w p (Some (E.Codestream a len)) (a + len) n → Leads w p h base n
 leads-from w p n a len {base} held part there leads =
-    subst (λ (x : Held). Leads w p x base n) (sym (held ∙ ap Waiting part))
-    (subst (λ (x : ℕ). Leads w p (Waiting (E.Codestream a len)) x n) there leads)
+    subst (λ (x : MaybeEvent). Leads w p x base n) (sym (held ∙ ap Some part))
+    (subst (λ (x : ℕ). Leads w p (Some (E.Codestream a len)) x n) there leads)
 
 -- the turn's answer then
-pub told-short : (base : ℕ) (s buffer : List ℕ) (p : ContainerParser) (h : Held) (w : Way) {q : ContainerParser} {j : Joiner} {r : AfterTurn} → Leads w p h base (length s)
-    → w ≡ W.Short q j → base + length s < 2 ^ 64 → r ≡ leaving q j (length s) 0 (End.Stopped S.Want)
+pub told-short : (base : ℕ) (s buffer : List ℕ) (p : ContainerParser) (h : MaybeEvent) (w : Way) {q : ContainerParser} {j : Joiner} {r : AfterTurn} → Leads w p h base (length s)
+    → w ≡ W.Short q j → base + length s < 2 ^ 64 → r ≡ leaving q j (length s) 0 (TurnEnd.Stopped S.Want)
     → Spec.Told r buffer buffer (turnOf base s (length buffer) p h)
 told-short base s buffer p h w {q} {j} leads short near so =
     let t = turnOf base s (length buffer) p h in
     subst (λ (x : AfterTurn). Spec.Told x buffer buffer t) (sym so)
-    (finish buffer buffer t (leaving q j (length s) 0 (End.Stopped S.Want)) (omega arith) refl
+    (finish buffer buffer t (leaving q j (length s) 0 (TurnEnd.Stopped S.Want)) (omega arith) refl
     (sym (turn-near base s (length buffer) p h near) ∙ subst (λ (x : Way). Leads x p h base (length s)) short leads s (length buffer) refl))

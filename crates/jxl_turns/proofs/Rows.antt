@@ -8,20 +8,20 @@ use lib.ListN.{length, drop, length-append, length-drop}
 use lib.Seq.{drop-drop}
 use Rattle.jxl_container.specs.Step.{shifted, stepOf}
 use Rattle.jxl_container.specs.declared.ContainerParser.{ContainerParser}
-use Rattle.jxl_container.specs.declared.parse.Event.{Event}
+use Rattle.jxl_container.specs.declared.parse.ParseEvent.{ParseEvent}
 use Rattle.jxl_files.specs.Feeding.{Seen, Shown, Takes, events, eventsIn}
 use Rattle.jxl_files.specs.Feeding as Feeding
 use Rattle.jxl_files.specs.Theorems.{All}
-use Rattle.jxl_files.specs.declared.Held.{Held}
+use Rattle.jxl_files.specs.declared.MaybeEvent.{MaybeEvent}
 use Rattle.jxl_files.proofs.Taking.{takes, take-is}
 use Rattle.jxl_listing.specs.Lines.{printed}
-use Rattle.jxl_listing.specs.declared.Stop.{Stop}
-use Rattle.jxl_listing.specs.declared.Stop.the-variants as S
+use Rattle.jxl_listing.specs.declared.StopWord.{StopWord}
+use Rattle.jxl_listing.specs.declared.StopWord.the-variants as S
 use Rattle.jxl_turns.specs.Theorems.{Feeds, HeldFits, TurnsGoOn, RowIsOneTurn, RowWithRoom, RowFeeds, RowEnds}
 use Rattle.jxl_turns.specs.Turned.{Turned, over, behind, turnOf}
 use Rattle.jxl_turns.specs.Row.{goesOn, rowBy, rowOf}
-use Rattle.jxl_turns.specs.declared.End.{End}
-use Rattle.jxl_turns.specs.declared.End.the-variants as End
+use Rattle.jxl_turns.specs.declared.TurnEnd.{TurnEnd}
+use Rattle.jxl_turns.specs.declared.TurnEnd.the-variants as TurnEnd
 use Rattle.jxl_turns.proofs.Text.{count, taken-shown}
 use Rattle.jxl_turns.proofs.Turning.{behind-behind, shift-sum}
 use Rattle.jxl_turns.proofs.Goes.{lineOf, Goes, puts, lacks, waits, ends, inside, near-ends, went, comes, near-or-not, full-near, stopped-near}
@@ -32,12 +32,12 @@ use Rattle.jxl_turns.proofs.Full.{turn-keeps-fit, turn-advances}
 abbrev forward : ℕ → Turned → Turned
 forward c t = record { lines = t .lines; parser = t .parser; held = t .held; consumed = c + t .consumed; end = t .end }
 
-shift-further : (base c k : ℕ) (e : Event) → shifted (base + c) (shifted k e) ≡ shifted base (shifted (c + k) e)
+shift-further : (base c k : ℕ) (e : ParseEvent) → shifted (base + c) (shifted k e) ≡ shifted base (shifted (c + k) e)
 shift-further base c k e = shift-sum base c (shifted k e) ∙ ap (shifted base) (sym (shift-sum c k e))
 
 module _ (base : ℕ) (s : List ℕ) where
   -- a turn that ended for want of room, and what comes behind it from there
-  spliced : {room next k : ℕ} {p : ContainerParser} {h : Held} {t u : Turned} → Goes base s room p h k t → t .end ≡ End.Full
+  spliced : {room next k : ℕ} {p : ContainerParser} {h : MaybeEvent} {t u : Turned} → Goes base s room p h k t → t .end ≡ TurnEnd.Full
       → Goes base s next (t .parser) (t .held) (t .consumed) u → Goes base s (length (t .lines) + next) p h k (behind (t .lines) u)
   spliced {next = next} {k = k} {p = p} {h = h} {u = u} (puts {t = t} {e = e} st ev at fits so g) full v =
       let rest = spliced g (sym (ap (λ (x : Turned). x .end) so) ∙ full) (subst (λ (x : Turned). Goes base s next (x .parser) (x .held) (x .consumed) u) so v) in
@@ -52,19 +52,19 @@ module _ (base : ℕ) (s : List ℕ) where
   spliced (ends st so) full v = absurd (let z : _≡_ {A = ℕ} 0 1 = cc in omega arith)
 
   -- a turn on the rest of the input, said of the whole
-  moved : (c : ℕ) {room k : ℕ} {p : ContainerParser} {h : Held} {t : Turned} → Goes (base + c) (drop c s) room p h k t → Goes base s room p h (c + k) (forward c t)
+  moved : (c : ℕ) {room k : ℕ} {p : ContainerParser} {h : MaybeEvent} {t : Turned} → Goes (base + c) (drop c s) room p h k t → Goes base s room p h (c + k) (forward c t)
   moved c {k = k} {p = p} (puts {m = m} {c = n} {d = d} st ev at fits so g) =
       let place : c + m ≡ c + k + n = omega (arith, at) in
       puts (ap (stepOf p) (sym (drop-drop k c s)) ∙ st) (ev ∙ shift-further base c k d) place fits (ap (forward c) so) (moved c g)
   moved c {k = k} {p = p} (lacks {d = d} st ev none so) =
       lacks (ap (stepOf p) (sym (drop-drop k c s)) ∙ st) (ev ∙ shift-further base c k d) none (ap (forward c) so)
   moved c {k = k} {p = p} {h = h} (waits {c = n} {q = q} st so) =
-      waits (ap (stepOf p) (sym (drop-drop k c s)) ∙ st) (ap (forward c) so ∙ ap (over (End.Stopped S.Want) q h) (let z : c + (k + n) ≡ c + k + n = omega arith in z))
+      waits (ap (stepOf p) (sym (drop-drop k c s)) ∙ st) (ap (forward c) so ∙ ap (over (TurnEnd.Stopped S.Want) q h) (let z : c + (k + n) ≡ c + k + n = omega arith in z))
   moved c {k = k} {p = p} {h = h} (ends {c = n} {x = x} {q = q} st so) =
-      ends (ap (stepOf p) (sym (drop-drop k c s)) ∙ st) (ap (forward c) so ∙ ap (over (End.Stopped (printed x)) q h) (let z : c + (k + n) ≡ c + k + n = omega arith in z))
+      ends (ap (stepOf p) (sym (drop-drop k c s)) ∙ st) (ap (forward c) so ∙ ap (over (TurnEnd.Stopped (printed x)) q h) (let z : c + (k + n) ≡ c + k + n = omega arith in z))
 
   -- the room that the lines fill is enough
-  filled : {room k : ℕ} {p : ContainerParser} {h : Held} {t : Turned} → Goes base s room p h k t → Goes base s (length (t .lines)) p h k t
+  filled : {room k : ℕ} {p : ContainerParser} {h : MaybeEvent} {t : Turned} → Goes base s room p h k t → Goes base s (length (t .lines)) p h k t
   filled {h = h} (puts {t = t} {e = e} st ev at fits so g) =
       puts st ev at (ap (λ (x : Turned). length (x .lines)) so ∙ length-append (lineOf h e) (t .lines)) so (filled g)
   filled {h = h} {t = t} (lacks {e = e} st ev none so) =
@@ -74,7 +74,7 @@ module _ (base : ℕ) (s : List ℕ) where
   filled (ends st so) = ends st so
 
   -- and so is more, where the parser ended the turn
-  enough : {room more k : ℕ} {p : ContainerParser} {h : Held} {t : Turned} {w : Stop} → Goes base s room p h k t → t .end ≡ End.Stopped w → length (t .lines) ≤ more
+  enough : {room more k : ℕ} {p : ContainerParser} {h : MaybeEvent} {t : Turned} {w : StopWord} → Goes base s room p h k t → t .end ≡ TurnEnd.Stopped w → length (t .lines) ≤ more
       → Goes base s more p h k t
   enough {more = more} {h = h} (puts {t = t} {e = e} st ev at fits so g) stop f =
       let size : length (lineOf h e) + length (t .lines) ≤ more = omega (arith, f, ap (λ (x : Turned). length (x .lines)) so, length-append (lineOf h e) (t .lines)) in
@@ -86,18 +86,18 @@ module _ (base : ℕ) (s : List ℕ) where
   enough (ends st so) stop f = ends st so
 
   -- a turn that ended for want of room leaves events to come, and fewer if it put a line
-  pub record Left (p : ContainerParser) (k : ℕ) (t : Turned) : Type 0 where
+  pub record BytesLeft (p : ContainerParser) (k : ℕ) (t : Turned) : Type 0 where
     pub some : 0 < count (t .parser) (t .consumed) s
     pub most : count (t .parser) (t .consumed) s ≤ count p k s
     pub fewer : 0 < length (t .lines) → count (t .parser) (t .consumed) s < count p k s
 
-  left-behind : {room k : ℕ} {p : ContainerParser} {h : Held} {t : Turned} → Goes base s room p h k t → t .end ≡ End.Full → Left p k t
+  left-behind : {room k : ℕ} {p : ContainerParser} {h : MaybeEvent} {t : Turned} → Goes base s room p h k t → t .end ≡ TurnEnd.Full → BytesLeft p k t
   left-behind {k = k} {p = p} (puts {m = m} {q = q} st ev at fits so g) full =
       let one : count p k s ≡ suc (count q m s) = ap (λ (x : Seen). length (x .shown)) (taken-shown p s k st) ∙ ap (λ (x : ℕ). suc (count q x s)) (sym at) in
       let rest = left-behind g (sym (ap (λ (x : Turned). x .end) so) ∙ full) in
-      subst (Left p k) (sym so) (record { some = rest .some; most = omega (arith, one, rest .most); fewer = λ put. omega (arith, one, rest .most) })
+      subst (BytesLeft p k) (sym so) (record { some = rest .some; most = omega (arith, one, rest .most); fewer = λ put. omega (arith, one, rest .most) })
   left-behind {k = k} {p = p} (lacks st ev none so) full =
-      subst (Left p k) (sym so)
+      subst (BytesLeft p k) (sym so)
       (record { some = omega (arith, ap (λ (x : Seen). length (x .shown)) (taken-shown p s k st)); most = omega arith; fewer = λ put. absurd (omega (arith, put)) })
   left-behind (waits st so) full = absurd (let z : _≡_ {A = ℕ} 0 1 = cc in omega arith)
   left-behind (ends st so) full = absurd (let z : _≡_ {A = ℕ} 0 1 = cc in omega arith)
@@ -119,63 +119,63 @@ turns-go-on base s room next p h full =
     (spliced base s first full (subst (λ (k : ℕ). Goes base s next (t .parser) (t .held) k (forward c u)) there (moved base s c then))))
 
 -- the one turn whose room the lines fill
-abbrev Tight : ℕ → List ℕ → ContainerParser → Held → Turned → Type 0
+abbrev Tight : ℕ → List ℕ → ContainerParser → MaybeEvent → Turned → Type 0
 Tight base s p h t = t ≡ turnOf base s (length (t .lines)) p h
 
-turn-tight : (base : ℕ) (s : List ℕ) (room : ℕ) (p : ContainerParser) (h : Held) → Tight base s p h (turnOf base s room p h)
+turn-tight : (base : ℕ) (s : List ℕ) (room : ℕ) (p : ContainerParser) (h : MaybeEvent) → Tight base s p h (turnOf base s room p h)
 turn-tight base s room p h = ⊎-elim tight (λ far. subst (Tight base s p h) (sym far) (beyond far)) (near-or-not base s room p h)
   where
     tight : base + length s < 2 ^ 64 → Tight base s p h (turnOf base s room p h)
     tight near = sym (comes base s (length (turnOf base s room p h .lines)) p h near (filled base s (went base s room p h near)))
 
-    beyond : turnOf base s room p h ≡ over End.TooFar p h 0 → over End.TooFar p h 0 ≡ turnOf base s 0 p h
+    beyond : turnOf base s room p h ≡ over TurnEnd.TooFar p h 0 → over TurnEnd.TooFar p h 0 ≡ turnOf base s 0 p h
     beyond far = ⊎-elim (λ near. absurd (near-ends base s (went base s room p h near) (ap (λ (x : Turned). x .end) far))) (λ e. sym e) (near-or-not base s 0 p h)
 
 -- a row, by why its first turn ended
-module _ (base : ℕ) (s : List ℕ) (room : ℕ) (rooms : List ℕ) (p : ContainerParser) (h : Held) where
+module _ (base : ℕ) (s : List ℕ) (room : ℕ) (rooms : List ℕ) (p : ContainerParser) (h : MaybeEvent) where
   abbrev Rest : Turned
   Rest = let t = turnOf base s room p h in rowOf (base + t .consumed) (drop (t .consumed) s) rooms (t .parser) (t .held)
 
-  row-full : turnOf base s room p h .end ≡ End.Full → rowOf base s (room ∷ rooms) p h ≡ goesOn (turnOf base s room p h) Rest
+  row-full : turnOf base s room p h .end ≡ TurnEnd.Full → rowOf base s (room ∷ rooms) p h ≡ goesOn (turnOf base s room p h) Rest
   unfolding rowOf
   row-full e = ap (rowBy (turnOf base s room p h) Rest) e
 
-  row-stopped : {w : Stop} → turnOf base s room p h .end ≡ End.Stopped w → rowOf base s (room ∷ rooms) p h ≡ turnOf base s room p h
+  row-stopped : {w : StopWord} → turnOf base s room p h .end ≡ TurnEnd.Stopped w → rowOf base s (room ∷ rooms) p h ≡ turnOf base s room p h
   unfolding rowOf
   row-stopped e = ap (rowBy (turnOf base s room p h) Rest) e
 
-  row-too-far : turnOf base s room p h .end ≡ End.TooFar → rowOf base s (room ∷ rooms) p h ≡ turnOf base s room p h
+  row-too-far : turnOf base s room p h .end ≡ TurnEnd.TooFar → rowOf base s (room ∷ rooms) p h ≡ turnOf base s room p h
   unfolding rowOf
   row-too-far e = ap (rowBy (turnOf base s room p h) Rest) e
 
-row-none : (base : ℕ) (s : List ℕ) (p : ContainerParser) (h : Held) → rowOf base s [] p h ≡ over End.Full p h 0
+row-none : (base : ℕ) (s : List ℕ) (p : ContainerParser) (h : MaybeEvent) → rowOf base s [] p h ≡ over TurnEnd.Full p h 0
 unfolding rowOf
 row-none base s p h = refl
 
 -- nothing behind a turn
-nothing-more : (t : Turned) → t .end ≡ End.Full → goesOn t (over End.Full (t .parser) (t .held) 0) ≡ t
+nothing-more : (t : Turned) → t .end ≡ TurnEnd.Full → goesOn t (over TurnEnd.Full (t .parser) (t .held) 0) ≡ t
 nothing-more t full =
     let all : t .consumed + 0 ≡ t .consumed = omega arith in
     λ i. record { lines = append-nil (t .lines) i; parser = t .parser; held = t .held; consumed = all i; end = sym full i }
 
-module _ (base : ℕ) (s : List ℕ) (room : ℕ) (p : ContainerParser) (h : Held) where
+module _ (base : ℕ) (s : List ℕ) (room : ℕ) (p : ContainerParser) (h : MaybeEvent) where
   abbrev First : Turned
   First = turnOf base s room p h
 
   -- by why the first turn ended
-  tight-by : (rooms : List ℕ) → (First .end ≡ End.Full → Tight base s p h (goesOn First (Rest base s room rooms p h))) → (e : End) → First .end ≡ e
+  tight-by : (rooms : List ℕ) → (First .end ≡ TurnEnd.Full → Tight base s p h (goesOn First (Rest base s room rooms p h))) → (e : TurnEnd) → First .end ≡ e
       → Tight base s p h (rowOf base s (room ∷ rooms) p h)
-  tight-by rooms more End.Full e = subst (Tight base s p h) (sym (row-full base s room rooms p h e)) (more e)
-  tight-by rooms more (End.Stopped w) e = subst (Tight base s p h) (sym (row-stopped base s room rooms p h e)) (turn-tight base s room p h)
-  tight-by rooms more End.TooFar e = subst (Tight base s p h) (sym (row-too-far base s room rooms p h e)) (turn-tight base s room p h)
+  tight-by rooms more TurnEnd.Full e = subst (Tight base s p h) (sym (row-full base s room rooms p h e)) (more e)
+  tight-by rooms more (TurnEnd.Stopped w) e = subst (Tight base s p h) (sym (row-stopped base s room rooms p h e)) (turn-tight base s room p h)
+  tight-by rooms more TurnEnd.TooFar e = subst (Tight base s p h) (sym (row-too-far base s room rooms p h e)) (turn-tight base s room p h)
 
-  last : First .end ≡ End.Full → Tight base s p h (goesOn First (Rest base s room [] p h))
+  last : First .end ≡ TurnEnd.Full → Tight base s p h (goesOn First (Rest base s room [] p h))
   last e =
       let same = ap (goesOn First) (row-none (base + First .consumed) (drop (First .consumed) s) (First .parser) (First .held)) ∙ nothing-more First e in
       subst (Tight base s p h) (sym same) (turn-tight base s room p h)
 
   further : (rooms : List ℕ) → Tight (base + First .consumed) (drop (First .consumed) s) (First .parser) (First .held) (Rest base s room rooms p h)
-      → First .end ≡ End.Full → Tight base s p h (goesOn First (Rest base s room rooms p h))
+      → First .end ≡ TurnEnd.Full → Tight base s p h (goesOn First (Rest base s room rooms p h))
   further rooms rest e =
       let u = Rest base s room rooms p h in
       ap (goesOn First) rest ∙ turns-go-on base s room (length (u .lines)) p h e ∙ ap (λ (n : ℕ). turnOf base s n p h) (sym (length-append (First .lines) (u .lines)))
@@ -190,11 +190,11 @@ row-is-one-turn base s room (next ∷ rooms) p h =
 -- a row that the parser ended is a turn that the parser ended
 pub row-with-room : RowWithRoom
 row-with-room base s [] p h w room stop fits =
-    absurd (let z : End.Full ≡ End.Stopped w = sym (ap (λ (x : Turned). x .end) (row-none base s p h)) ∙ stop in let y : _≡_ {A = ℕ} 0 1 = cc in omega arith)
+    absurd (let z : TurnEnd.Full ≡ TurnEnd.Stopped w = sym (ap (λ (x : Turned). x .end) (row-none base s p h)) ∙ stop in let y : _≡_ {A = ℕ} 0 1 = cc in omega arith)
 row-with-room base s (first ∷ rooms) p h w room stop fits =
     let r = rowOf base s (first ∷ rooms) p h in
     let one = row-is-one-turn base s first rooms p h in
-    let ended : turnOf base s (length (r .lines)) p h .end ≡ End.Stopped w = sym (ap (λ (x : Turned). x .end) one) ∙ stop in
+    let ended : turnOf base s (length (r .lines)) p h .end ≡ TurnEnd.Stopped w = sym (ap (λ (x : Turned). x .end) one) ∙ stop in
     let near = stopped-near base s (length (r .lines)) p h ended in
     let g : Goes base s (length (r .lines)) p h 0 r = subst (Goes base s (length (r .lines)) p h 0) (sym one) (went base s (length (r .lines)) p h near) in
     sym (comes base s room p h near (enough base s g stop fits))
@@ -226,16 +226,16 @@ length-events (x ∷ xs) = ap suc (length-events xs)
 
 -- the turns that end for want of room use the events up
 abbrev EndsByParser : Turned → Type 0
-EndsByParser t = (w : Stop) × (t .end ≡ End.Stopped w)
+EndsByParser t = (w : StopWord) × (t .end ≡ TurnEnd.Stopped w)
 
-module _ (base : ℕ) (s : List ℕ) (room : ℕ) (p : ContainerParser) (h : Held) (near : base + length s < 2 ^ 64) where
-  ends-by : (rooms : List ℕ) → (First base s room p h .end ≡ End.Full → EndsByParser (Rest base s room rooms p h)) → (e : End) → First base s room p h .end ≡ e
+module _ (base : ℕ) (s : List ℕ) (room : ℕ) (p : ContainerParser) (h : MaybeEvent) (near : base + length s < 2 ^ 64) where
+  ends-by : (rooms : List ℕ) → (First base s room p h .end ≡ TurnEnd.Full → EndsByParser (Rest base s room rooms p h)) → (e : TurnEnd) → First base s room p h .end ≡ e
       → EndsByParser (rowOf base s (room ∷ rooms) p h)
-  ends-by rooms more End.Full e = subst EndsByParser (sym (row-full base s room rooms p h e)) (more e)
-  ends-by rooms more (End.Stopped w) e = (w, ap (λ (x : Turned). x .end) (row-stopped base s room rooms p h e) ∙ e)
-  ends-by rooms more End.TooFar e = absurd (near-ends base s (went base s room p h near) e)
+  ends-by rooms more TurnEnd.Full e = subst EndsByParser (sym (row-full base s room rooms p h e)) (more e)
+  ends-by rooms more (TurnEnd.Stopped w) e = (w, ap (λ (x : Turned). x .end) (row-stopped base s room rooms p h e) ∙ e)
+  ends-by rooms more TurnEnd.TooFar e = absurd (near-ends base s (went base s room p h near) e)
 
-  events-left : HeldFits h → 56 ≤ room → First base s room p h .end ≡ End.Full
+  events-left : HeldFits h → 56 ≤ room → First base s room p h .end ≡ TurnEnd.Full
       → let n = count (First base s room p h .parser) 0 (drop (First base s room p h .consumed) s) in (0 < n) × (n < count p 0 s)
   events-left f r full =
       let t = First base s room p h in
@@ -246,7 +246,7 @@ module _ (base : ℕ) (s : List ℕ) (room : ℕ) (p : ContainerParser) (h : Hel
   near-then : base + First base s room p h .consumed + length (drop (First base s room p h .consumed) s) < 2 ^ 64
   near-then = rest-near base s (First base s room p h .consumed) (inside base s (omega arith) (went base s room p h near)) near
 
-ends-for : (base : ℕ) (s : List ℕ) (room : ℕ) (rooms : List ℕ) (p : ContainerParser) (h : Held) → base + length s < 2 ^ 64 → HeldFits h
+ends-for : (base : ℕ) (s : List ℕ) (room : ℕ) (rooms : List ℕ) (p : ContainerParser) (h : MaybeEvent) → base + length s < 2 ^ 64 → HeldFits h
     → All (λ r. 56 ≤ r) (room ∷ rooms) → count p 0 s ≤ length (room ∷ rooms) → EndsByParser (rowOf base s (room ∷ rooms) p h)
 ends-for base s room [] p h near f (r, all) few =
     ends-by base s room p h near [] (λ full. absurd (omega (arith, few, events-left base s room p h near f r full .0, events-left base s room p h near f r full .1))) _ refl

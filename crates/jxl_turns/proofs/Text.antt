@@ -11,8 +11,8 @@ use Rattle.jxl_container.specs.Record.{fresh}
 use Rattle.jxl_container.specs.Step.{Told, shows, wants, refuses, shifted, stepOf, told}
 use Rattle.jxl_container.proofs.Laws.{every-step}
 use Rattle.jxl_container.specs.declared.ContainerParser.{ContainerParser}
-use Rattle.jxl_container.specs.declared.parse.Event.{Event}
-use Rattle.jxl_container.specs.declared.parse.Event.the-variants as E
+use Rattle.jxl_container.specs.declared.parse.ParseEvent.{ParseEvent}
+use Rattle.jxl_container.specs.declared.parse.ParseEvent.the-variants as E
 use Rattle.jxl_container.specs.declared.parse.Step.{Step}
 use Rattle.jxl_files.specs.Feeding.{Seen, events, followed, placed, stops}
 use Rattle.jxl_files.specs.Feeding as Feeding
@@ -23,27 +23,27 @@ use Rattle.jxl_files.proofs.Taking.{takes, take-is}
 use Rattle.jxl_files.proofs.Theorems.{every-file, whole-feed}
 use Rattle.jxl_listing.specs.Lines.{printed, text}
 use Rattle.jxl_listing.specs.declared.Line.the-variants as L
-use Rattle.jxl_listing.specs.declared.Stop.{Stop}
-use Rattle.jxl_listing.specs.declared.Stop.the-variants as S
+use Rattle.jxl_listing.specs.declared.StopWord.{StopWord}
+use Rattle.jxl_listing.specs.declared.StopWord.the-variants as S
 use Rattle.jxl_turns.specs.Listed.{stopOf, texts, listingText, fileText, nextIn, nextOf, placeOf}
-use Rattle.jxl_turns.specs.declared.Following.{Following}
-use Rattle.jxl_turns.specs.declared.Following.the-variants as N
+use Rattle.jxl_turns.specs.declared.AfterStep.{AfterStep}
+use Rattle.jxl_turns.specs.declared.AfterStep.the-variants as N
 
 -- a payload's place lies inside the input too
-inside-place : (e : Event) (n : ℕ) → Inside e n → placeOf e ≤ n
-inside-place (E.Kind k) n i = omega arith
-inside-place E.NoMoreAux n i = omega arith
+inside-place : (e : ParseEvent) (n : ℕ) → Inside e n → placeOf e ≤ n
+inside-place (E.BitstreamKind k) n i = omega arith
+inside-place E.NoMoreAuxBox n i = omega arith
 inside-place (E.Codestream a l) n i = omega arith
-inside-place (E.AuxStart t b e) n i = omega arith
-inside-place (E.AuxData t a l) n i = omega arith
-inside-place (E.AuxEnd t) n i = omega arith
+inside-place (E.AuxBoxStart t b e) n i = omega arith
+inside-place (E.AuxBoxData t a l) n i = omega arith
+inside-place (E.AuxBoxEnd t) n i = omega arith
 
 -- a step on the file from `at` on
 module _ (p : ContainerParser) (f : List ℕ) (at : ℕ) (h : at ≤ length f) where
   pub far : {r t : Told} → r ≡ stepOf p (take (length f - at) (drop at f)) → r ≡ t → stepOf p (drop at f) ≡ t
   far e q = ap (stepOf p) (sym (take-all (length f - at) (drop at f) (omega (arith, length-drop at f)))) ∙ sym e ∙ q
 
-  pub shown-fits : {e : Event} {q : ContainerParser} {c : ℕ} → stepOf p (drop at f) ≡ shows e q c → (at + placeOf e ≤ length f) × (at + c ≤ length f)
+  pub shown-fits : {e : ParseEvent} {q : ContainerParser} {c : ℕ} → stepOf p (drop at f) ≡ shows e q c → (at + placeOf e ≤ length f) × (at + c ≤ length f)
   shown-fits {e} s =
       let kept = rw s at (every-step p (drop at f)) in
       (omega (arith, inside-place e (length (drop at f)) (kept .1), length-drop at f), omega (arith, kept .0, length-drop at f))
@@ -62,14 +62,14 @@ abbrev pub count : ContainerParser → ℕ → List ℕ → ℕ
 count p at f = length (Feeding.take p at (drop at f) .shown)
 
 module _ (p : ContainerParser) (f : List ℕ) (at : ℕ) where
-  pub taken-shown : {e : Event} {q : ContainerParser} {c : ℕ} → stepOf p (drop at f) ≡ shows e q c
+  pub taken-shown : {e : ParseEvent} {q : ContainerParser} {c : ℕ} → stepOf p (drop at f) ≡ shows e q c
       → Feeding.take p at (drop at f) ≡ followed (placed at (drop at f) e ∷ []) (Feeding.take q (at + c) (drop (at + c) f))
   taken-shown {e} {q} {c} s =
       take-is (more s (takes q (at + c) (drop c (drop at f)) .1))
       ∙ ap (λ (l : List ℕ). followed (placed at (drop at f) e ∷ []) (Feeding.take q (at + c) l)) (drop-drop c at f)
 
   -- an event's line, and the rest
-  pub following-shown : at ≤ length f → {e : Event} {q : ContainerParser} {k : ℕ} → nextOf p at (drop at f) ≡ N.Shown e q k
+  pub following-shown : at ≤ length f → {e : ParseEvent} {q : ContainerParser} {k : ℕ} → nextOf p at (drop at f) ≡ N.Shown e q k
       → (Rest p at f ≡ text (L.Shown e) ++ Rest q k f) × (k ≤ length f) × (count p at f ≡ suc (count q k f))
   following-shown h {e} {q} {k} n = go (stepOf p (drop at f)) refl n
     where
@@ -90,7 +90,7 @@ module _ (p : ContainerParser) (f : List ℕ) (at : ℕ) where
       go (refuses x r c) s n = absurd (let z : _≡_ {A = ℕ} 0 1 = cc in omega arith)
 
   -- the stop's line, and nothing more
-  pub following-stopped : {w : Stop} {q : ContainerParser} {k : ℕ} → nextOf p at (drop at f) ≡ N.Stopped w q k → Rest p at f ≡ text (L.Stopped w k)
+  pub following-stopped : {w : StopWord} {q : ContainerParser} {k : ℕ} → nextOf p at (drop at f) ≡ N.Stopped w q k → Rest p at f ≡ text (L.Stopped w k)
   following-stopped {w} {q} {k} n = go (stepOf p (drop at f)) refl n
     where
       go : (t : Told) → stepOf p (drop at f) ≡ t → nextIn at t ≡ N.Stopped w q k → Rest p at f ≡ text (L.Stopped w k)

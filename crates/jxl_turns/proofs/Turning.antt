@@ -9,45 +9,45 @@ use lib.Seq.{drop-drop, length-take-le}
 use borrow.Author.Tests.{le-leb, lt-leb, lt-ltb, le-ltb}
 use Rattle.jxl_container.specs.Step.{Told, shows, wants, refuses, shifted, stepOf}
 use Rattle.jxl_container.specs.declared.ContainerParser.{ContainerParser}
-use Rattle.jxl_container.specs.declared.parse.Event.{Event}
-use Rattle.jxl_container.specs.declared.parse.Event.the-variants as E
+use Rattle.jxl_container.specs.declared.parse.ParseEvent.{ParseEvent}
+use Rattle.jxl_container.specs.declared.parse.ParseEvent.the-variants as E
 use Rattle.jxl_files.specs.Joiner.{adding, handed}
 use Rattle.jxl_files.specs.declared.Added.{Added}
-use Rattle.jxl_files.specs.declared.Held.{Held}
+use Rattle.jxl_files.specs.declared.MaybeEvent.{MaybeEvent}
 use Rattle.jxl_files.specs.declared.Joiner.{Joiner}
 use Rattle.jxl_listing.specs.Putting.{Outcome, leaves, pasted, putOf}
 use Rattle.jxl_listing.specs.declared.Put.the-variants.{Written, NoRoom}
-use Rattle.jxl_listing.specs.declared.Stop.{Stop}
+use Rattle.jxl_listing.specs.declared.StopWord.{StopWord}
 use Rattle.jxl_turns.specs.Listed.{texts, nextIn, nextOf, placeOf}
 use Rattle.jxl_turns.specs.Turned as Spec
 use Rattle.jxl_turns.specs.Turned.{Turned, over, behind, turnBy, turning, turnFrom, turnOf}
-use Rattle.jxl_turns.specs.declared.End.{End}
-use Rattle.jxl_turns.specs.declared.End.the-variants as End
+use Rattle.jxl_turns.specs.declared.TurnEnd.{TurnEnd}
+use Rattle.jxl_turns.specs.declared.TurnEnd.the-variants as TurnEnd
 use Rattle.jxl_turns.specs.declared.AfterTurn.{AfterTurn}
-use Rattle.jxl_turns.specs.declared.Following.the-variants as N
+use Rattle.jxl_turns.specs.declared.AfterStep.the-variants as N
 use Rattle.jxl_turns.proofs.Text.{count, following-shown, shown-fits}
 use Rattle.jxl_turns.proofs.Paste.{front-put, put-was, put-was-not, take-pasted, drop-pasted, length-pasted}
 
 -- the line of the event that a joiner hands back for the next one
-abbrev pub line : ℕ → Held → Event → List ℕ
+abbrev pub line : ℕ → MaybeEvent → ParseEvent → List ℕ
 line base h e = texts (handed (adding h (shifted base e) .out))
 
-abbrev pub held : ℕ → Held → Event → Held
+abbrev pub held : ℕ → MaybeEvent → ParseEvent → MaybeEvent
 held base h e = adding h (shifted base e) .next .held
 
-module _ (base : ℕ) (s : List ℕ) (room : ℕ) (p : ContainerParser) (h : Held) (k : ℕ) where
-  pub turn-shown : {e : Event} {q : ContainerParser} {m : ℕ} → k ≤ length s → nextOf p k (drop k s) ≡ N.Shown e q m → length (line base h e) ≤ room
+module _ (base : ℕ) (s : List ℕ) (room : ℕ) (p : ContainerParser) (h : MaybeEvent) (k : ℕ) where
+  pub turn-shown : {e : ParseEvent} {q : ContainerParser} {m : ℕ} → k ≤ length s → nextOf p k (drop k s) ≡ N.Shown e q m → length (line base h e) ≤ room
       → turnFrom base s room p h k ≡ behind (line base h e) (turnFrom base s (room - length (line base h e)) q (held base h e) m)
   unfolding turning
   turn-shown {e} {q} {m} i n f =
       rw (n, turnBy, le-leb (length (line base h e)) room f, following-shown p s k i n .2)
 
-  pub turn-full : {e : Event} {q : ContainerParser} {m : ℕ} → nextOf p k (drop k s) ≡ N.Shown e q m → room < length (line base h e)
-      → turnFrom base s room p h k ≡ over End.Full p h k
+  pub turn-full : {e : ParseEvent} {q : ContainerParser} {m : ℕ} → nextOf p k (drop k s) ≡ N.Shown e q m → room < length (line base h e)
+      → turnFrom base s room p h k ≡ over TurnEnd.Full p h k
   unfolding turning
   turn-full {e} n f = rw (n, turnBy, lt-leb (length (line base h e)) room f)
 
-  pub turn-stopped : {w : Stop} {q : ContainerParser} {m : ℕ} → nextOf p k (drop k s) ≡ N.Stopped w q m → turnFrom base s room p h k ≡ over (End.Stopped w) q h m
+  pub turn-stopped : {w : StopWord} {q : ContainerParser} {m : ℕ} → nextOf p k (drop k s) ≡ N.Stopped w q m → turnFrom base s room p h k ≡ over (TurnEnd.Stopped w) q h m
   unfolding turning
   turn-stopped n = rw n
 
@@ -77,12 +77,12 @@ pub record Going (base : ℕ) (s buffer : List ℕ) (all : Turned) (out : List �
   pub same : length out ≡ length buffer
   pub untouched : drop (r .written) out ≡ drop (r .written) buffer
   pub told : all ≡ behind (take (r .written) out) (turnFrom base s (length buffer - r .written) (r .parser) (r .joiner .held) (r .consumed))
-  pub goes-on : r .end ≡ End.Full
+  pub goes-on : r .end ≡ TurnEnd.Full
 
-abbrev pub leaving : ContainerParser → Joiner → ℕ → ℕ → End → AfterTurn
+abbrev pub leaving : ContainerParser → Joiner → ℕ → ℕ → TurnEnd → AfterTurn
 leaving p j k w e = record { parser = p; joiner = j; consumed = k; written = w; end = e }
 
-pub going-first : (base : ℕ) (s buffer : List ℕ) (r : AfterTurn) → r .consumed ≡ 0 → r .written ≡ 0 → r .end ≡ End.Full
+pub going-first : (base : ℕ) (s buffer : List ℕ) (r : AfterTurn) → r .consumed ≡ 0 → r .written ≡ 0 → r .end ≡ TurnEnd.Full
     → Going base s buffer (turnFrom base s (length buffer) (r .parser) (r .joiner .held) 0) buffer r
 going-first base s buffer r k w e =
     let all = turnFrom base s (length buffer) (r .parser) (r .joiner .held) 0 in
@@ -99,16 +99,16 @@ going-first base s buffer r k w e =
     (subst (λ (m : ℕ). Going base s buffer all buffer (leaving (r .parser) (r .joiner) m 0 (r .end))) (sym k) first)
 
 -- an event moved on by a sum
-pub shift-sum : (b k : ℕ) (e : Event) → shifted (b + k) e ≡ shifted b (shifted k e)
-shift-sum b k (E.Kind x) = refl
-shift-sum b k E.NoMoreAux = refl
+pub shift-sum : (b k : ℕ) (e : ParseEvent) → shifted (b + k) e ≡ shifted b (shifted k e)
+shift-sum b k (E.BitstreamKind x) = refl
+shift-sum b k E.NoMoreAuxBox = refl
 shift-sum b k (E.Codestream a n) = ap (λ (x : ℕ). E.Codestream x n) (omega arith)
-shift-sum b k (E.AuxStart t c x) = refl
-shift-sum b k (E.AuxData t a n) = ap (λ (x : ℕ). E.AuxData t x n) (omega arith)
-shift-sum b k (E.AuxEnd t) = refl
+shift-sum b k (E.AuxBoxStart t c x) = refl
+shift-sum b k (E.AuxBoxData t a n) = ap (λ (x : ℕ). E.AuxBoxData t x n) (omega arith)
+shift-sum b k (E.AuxBoxEnd t) = refl
 
 -- the line of an event that was placed and added
-line-put : (base k : ℕ) (h : Held) (e placed : Event) (added : Added) (out : List ℕ) (w : ℕ) {r : Outcome} → placed ≡ shifted (base + k) e → added ≡ adding h placed
+line-put : (base k : ℕ) (h : MaybeEvent) (e placed : ParseEvent) (added : Added) (out : List ℕ) (w : ℕ) {r : Outcome} → placed ≡ shifted (base + k) e → added ≡ adding h placed
     → r ≡ putOf out w (texts (handed (added .out))) → (r ≡ putOf out w (line base h (shifted k e))) × (held base h (shifted k e) ≡ added .next .held)
 line-put base k h e placed added out w p a r =
     let same : added ≡ adding h (shifted base (shifted k e)) = a ∙ ap (adding h) (p ∙ shift-sum base k e) in
@@ -116,11 +116,11 @@ line-put base k h e placed added out w p a r =
 
 module _ (base : ℕ) (s buffer : List ℕ) (all : Turned) (out : List ℕ) (r : AfterTurn) (g : Going base s buffer all out r) where
   -- an event, placed and added to the joiner
-  module _ {d placed : Event} {q : ContainerParser} {c : ℕ} {added : Added} (st : stepOf (r .parser) (drop (r .consumed) s) ≡ shows d q c)
+  module _ {d placed : ParseEvent} {q : ContainerParser} {c : ℕ} {added : Added} (st : stepOf (r .parser) (drop (r .consumed) s) ≡ shows d q c)
       (p : placed ≡ shifted (base + r .consumed) d) (a : added ≡ adding (r .joiner .held) placed) where
     -- its line, if any, was put
     pub going-on : {n : ℕ} {then : AfterTurn} (put : List ℕ) → leaves (Written n) put ≡ putOf out (r .written) (texts (handed (added .out)))
-        → then ≡ leaving q (added .next) (r .consumed + c) n End.Full → Going base s buffer all put then
+        → then ≡ leaving q (added .next) (r .consumed + c) n TurnEnd.Full → Going base s buffer all put then
     going-on {n} put e so =
         let h = r .joiner .held in
         let w = r .written in
@@ -147,7 +147,7 @@ module _ (base : ℕ) (s buffer : List ℕ) (all : Turned) (out : List ℕ) (r :
               ∙ behind-behind (take w out) l (turnFrom base s (length buffer - w - length l) q (held base h (shifted k d)) (k + c))
               ∙ ap (λ (x : ℕ). behind (take w out ++ l) (turnFrom base s x q (held base h (shifted k d)) (k + c))) left
               ∙ ap (λ (x : List ℕ). behind x (turnFrom base s (length buffer - n) q (held base h (shifted k d)) (k + c))) (sym front)
-              ∙ ap (λ (x : Held). behind (take n put) (turnFrom base s (length buffer - n) q x (k + c))) (into .1);
+              ∙ ap (λ (x : MaybeEvent). behind (take n put) (turnFrom base s (length buffer - n) q x (k + c))) (into .1);
           goes-on = refl;
         })
 
@@ -162,23 +162,23 @@ module _ (base : ℕ) (s buffer : List ℕ) (all : Turned) (out : List ℕ) (r :
         let end : all ≡ behind (take w out) (over (r .end) (r .parser) h k) =
         g .told
         ∙ ap (behind (take w out)) (turn-full base s (length buffer - w) (r .parser) h k (ap (nextIn k) st) (omega (arith, was .0, g .same, g .room)))
-        ∙ ap (λ (x : End). behind (take w out) (over x (r .parser) h k)) (sym (g .goes-on)) in
+        ∙ ap (λ (x : TurnEnd). behind (take w out) (over x (r .parser) h k)) (sym (g .goes-on)) in
         (subst (λ (x : List ℕ). Spec.Told r x buffer all) (sym (was .1)) (finish out buffer all r (g .room) (g .untouched) end), ap length (was .1) ∙ g .same)
 
   -- the parser stops
-  pub going-stopped : {x : Stop} {q : ContainerParser} {m : ℕ} {then : AfterTurn} → nextOf (r .parser) (r .consumed) (drop (r .consumed) s) ≡ N.Stopped x q m
-      → then ≡ leaving q (r .joiner) m (r .written) (End.Stopped x) → Spec.Told then out buffer all
+  pub going-stopped : {x : StopWord} {q : ContainerParser} {m : ℕ} {then : AfterTurn} → nextOf (r .parser) (r .consumed) (drop (r .consumed) s) ≡ N.Stopped x q m
+      → then ≡ leaving q (r .joiner) m (r .written) (TurnEnd.Stopped x) → Spec.Told then out buffer all
   going-stopped {x} {q} {m} f so =
       subst (λ (y : AfterTurn). Spec.Told y out buffer all) (sym so)
-      (finish out buffer all (leaving q (r .joiner) m (r .written) (End.Stopped x)) (g .room) (g .untouched)
+      (finish out buffer all (leaving q (r .joiner) m (r .written) (TurnEnd.Stopped x)) (g .room) (g .untouched)
       (g .told ∙ ap (behind (take (r .written) out)) (turn-stopped base s (length buffer - r .written) (r .parser) (r .joiner .held) (r .consumed) f)))
 
 -- whether the input's place in the file fits
-module _ (base : ℕ) (s : List ℕ) (room : ℕ) (p : ContainerParser) (h : Held) where
+module _ (base : ℕ) (s : List ℕ) (room : ℕ) (p : ContainerParser) (h : MaybeEvent) where
   pub turn-near : base + length s < 2 ^ 64 → turnFrom base s room p h 0 ≡ turnOf base s room p h
   unfolding turnOf
   turn-near f = rw (turnOf, lt-ltb (base + length s) 18446744073709551616 f)
 
-  pub turn-too-far : 2 ^ 64 ≤ base + length s → over End.TooFar p h 0 ≡ turnOf base s room p h
+  pub turn-too-far : 2 ^ 64 ≤ base + length s → over TurnEnd.TooFar p h 0 ≡ turnOf base s room p h
   unfolding turnOf
   turn-too-far f = rw (turnOf, le-ltb (base + length s) 18446744073709551616 f)

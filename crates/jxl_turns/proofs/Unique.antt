@@ -4,16 +4,16 @@ use mathlib.Core.List.{List}
 use Prim.Native.Nat.{ℕ}
 use lib.ListN.{length}
 use Rattle.jxl_container.specs.declared.ContainerParser.{ContainerParser}
-use Rattle.jxl_files.specs.declared.Held.{Held}
+use Rattle.jxl_files.specs.declared.MaybeEvent.{MaybeEvent}
 use Rattle.jxl_turns.specs.Theorems.{OneListing, OneTurn}
 use Rattle.jxl_turns.specs.Turned.{Told}
 use Rattle.jxl_turns.specs.declared.AfterTurn.{AfterTurn}
-use Rattle.jxl_turns.specs.declared.End.{End}
+use Rattle.jxl_turns.specs.declared.TurnEnd.{TurnEnd}
 
 pub one-listing : OneListing
 one-listing d w r q b c p e = let same = p ∙ sym e in (cc, cc)
 
-abbrev answer : ContainerParser → Held → ℕ → ℕ → End → AfterTurn
+abbrev answer : ContainerParser → MaybeEvent → ℕ → ℕ → TurnEnd → AfterTurn
 answer p h k w e = record { parser = p; joiner = record { held = h }; consumed = k; written = w; end = e }
 
 pub one-turn : OneTurn
@@ -22,7 +22,7 @@ one-turn buffer t r q b c d e = (answers r d ∙ sym (answers q e), d .buffer-is
     answers : {b : List ℕ} (x : AfterTurn) → Told x b buffer t → x ≡ answer (t .parser) (t .held) (t .consumed) (length (t .lines)) (t .end)
     answers x y =
         ap (λ (p : ContainerParser). answer p (x .joiner .held) (x .consumed) (x .written) (x .end)) (y .parser-is)
-        ∙ ap (λ (h : Held). answer (t .parser) h (x .consumed) (x .written) (x .end)) (y .held-is)
+        ∙ ap (λ (h : MaybeEvent). answer (t .parser) h (x .consumed) (x .written) (x .end)) (y .held-is)
         ∙ ap (λ (k : ℕ). answer (t .parser) (t .held) k (x .written) (x .end)) (y .consumed-is)
         ∙ ap (λ (w : ℕ). answer (t .parser) (t .held) (t .consumed) w (x .end)) (y .written-is)
         ∙ ap (answer (t .parser) (t .held) (t .consumed) (length (t .lines))) (y .end-is)

@@ -6,25 +6,25 @@ use lib.ListN.{length}
 use Rattle.jxl_headers.specs.Bytes.{if}
 use Rattle.jxl_container.specs.Step.{Told, shows, wants, refuses, shifted, stepOf}
 use Rattle.jxl_container.specs.declared.ContainerParser.{ContainerParser}
-use Rattle.jxl_container.specs.declared.parse.Event.{Event}
-use Rattle.jxl_container.specs.declared.parse.Event.the-variants as E
+use Rattle.jxl_container.specs.declared.parse.ParseEvent.{ParseEvent}
+use Rattle.jxl_container.specs.declared.parse.ParseEvent.the-variants as E
 use Rattle.jxl_files.specs.Grammar.{Listing, file}
 use Rattle.jxl_files.specs.Grammar as G
 use Rattle.jxl_listing.specs.Lines.{printed, text}
 use Rattle.jxl_listing.specs.Putting.{Outcome, leaves, pasted}
 use Rattle.jxl_listing.specs.declared.Line.{Line}
 use Rattle.jxl_listing.specs.declared.Line.the-variants as L
-use Rattle.jxl_listing.specs.declared.Stop.{Stop}
-use Rattle.jxl_listing.specs.declared.Stop.the-variants as S
+use Rattle.jxl_listing.specs.declared.StopWord.{StopWord}
+use Rattle.jxl_listing.specs.declared.StopWord.the-variants as S
 use Rattle.jxl_listing.specs.declared.Put.the-variants.{Written, NoRoom}
-use Rattle.jxl_turns.specs.declared.Following.{Following}
-use Rattle.jxl_turns.specs.declared.Following.the-variants as N
+use Rattle.jxl_turns.specs.declared.AfterStep.{AfterStep}
+use Rattle.jxl_turns.specs.declared.AfterStep.the-variants as N
 
-abbrev pub stopOf : G.Stop → Stop
+abbrev pub stopOf : G.Stop → StopWord
 stopOf G.want = S.Want
 stopOf (G.refused w) = printed w
 
-abbrev pub texts : List Event → List ℕ
+abbrev pub texts : List ParseEvent → List ℕ
 texts [] = []
 texts (e ∷ es) = text (L.Shown e) ++ texts es
 
@@ -37,22 +37,22 @@ unfoldable pub fileText : List ℕ → List ℕ
 fileText s = listingText (file s)
 
 -- what comes next of an input that stands at `at`: an event with its place in the file, or the stop; and the record and the place then
-abbrev pub nextIn : ℕ → Told → Following
+abbrev pub nextIn : ℕ → Told → AfterStep
 nextIn at (shows e q c) = N.Shown (shifted at e) q (at + c)
 nextIn at (wants q c) = N.Stopped S.Want q (at + c)
 nextIn at (refuses w q c) = N.Stopped (printed w) q (at + c)
 
-abbrev pub nextOf : ContainerParser → ℕ → List ℕ → Following
+abbrev pub nextOf : ContainerParser → ℕ → List ℕ → AfterStep
 nextOf p at s = nextIn at (stepOf p s)
 
 -- the place of an event's payload
-abbrev pub placeOf : Event → ℕ
-placeOf (E.Kind k) = 0
-placeOf E.NoMoreAux = 0
+abbrev pub placeOf : ParseEvent → ℕ
+placeOf (E.BitstreamKind k) = 0
+placeOf E.NoMoreAuxBox = 0
 placeOf (E.Codestream a n) = a
-placeOf (E.AuxStart t b e) = 0
-placeOf (E.AuxData t a n) = a
-placeOf (E.AuxEnd t) = 0
+placeOf (E.AuxBoxStart t b e) = 0
+placeOf (E.AuxBoxData t a n) = a
+placeOf (E.AuxBoxEnd t) = 0
 
 -- the listing put into a buffer if it fits; else the buffer stays as it was, and the room needed is told, at most the largest number
 -- of 64 bits

@@ -4,24 +4,24 @@ use mathlib.Core.List.{List, [], _∷_, _++_}
 use Prim.Native.Nat.{ℕ, _+_}
 use lib.ListN.{drop}
 use Rattle.jxl_container.specs.declared.ContainerParser.{ContainerParser}
-use Rattle.jxl_files.specs.declared.Held.{Held}
+use Rattle.jxl_files.specs.declared.MaybeEvent.{MaybeEvent}
 use Rattle.jxl_turns.specs.Turned.{Turned, over, turnOf}
-use Rattle.jxl_turns.specs.declared.End.{End}
-use Rattle.jxl_turns.specs.declared.End.the-variants as End
+use Rattle.jxl_turns.specs.declared.TurnEnd.{TurnEnd}
+use Rattle.jxl_turns.specs.declared.TurnEnd.the-variants as TurnEnd
 
 -- a turn, and what came behind it: its lines first, the bytes consumed counted from its start
 abbrev pub goesOn : Turned → Turned → Turned
 goesOn t u = record { lines = t .lines ++ u .lines; parser = u .parser; held = u .held; consumed = t .consumed + u .consumed; end = u .end }
 
 -- by why t ended; `rest` is the row behind it
-abbrev pub rowBy : Turned → Turned → End → Turned
-rowBy t rest End.Full = goesOn t rest
-rowBy t rest (End.Stopped w) = t
-rowBy t rest End.TooFar = t
+abbrev pub rowBy : Turned → Turned → TurnEnd → Turned
+rowBy t rest TurnEnd.Full = goesOn t rest
+rowBy t rest (TurnEnd.Stopped w) = t
+rowBy t rest TurnEnd.TooFar = t
 
 -- a turn with each room; with no room left the row stays where it is
-unfoldable pub rowOf : ℕ → List ℕ → List ℕ → ContainerParser → Held → Turned
-rowOf base s [] p h = over End.Full p h 0
+unfoldable pub rowOf : ℕ → List ℕ → List ℕ → ContainerParser → MaybeEvent → Turned
+rowOf base s [] p h = over TurnEnd.Full p h 0
 rowOf base s (room ∷ rooms) p h =
     let t = turnOf base s room p h in
     rowBy t (rowOf (base + t .consumed) (drop (t .consumed) s) rooms (t .parser) (t .held)) (t .end)

@@ -7,31 +7,31 @@ use lib.Dec.{leb, ltb}
 use lib.ListN.{length, drop}
 use Rattle.jxl_container.specs.Step.{shifted}
 use Rattle.jxl_container.specs.declared.ContainerParser.{ContainerParser}
-use Rattle.jxl_container.specs.declared.parse.Event.{Event}
+use Rattle.jxl_container.specs.declared.parse.ParseEvent.{ParseEvent}
 use Rattle.jxl_files.specs.Feeding as Feeding
 use Rattle.jxl_files.specs.Joiner.{adding, handed}
-use Rattle.jxl_files.specs.declared.Held.{Held}
+use Rattle.jxl_files.specs.declared.MaybeEvent.{MaybeEvent}
 use Rattle.jxl_listing.specs.Putting.{pasted}
-use Rattle.jxl_listing.specs.declared.Stop.{Stop}
-use Rattle.jxl_listing.specs.declared.Stop.the-variants as S
+use Rattle.jxl_listing.specs.declared.StopWord.{StopWord}
+use Rattle.jxl_listing.specs.declared.StopWord.the-variants as S
 use Rattle.jxl_turns.specs.Listed.{texts, nextOf}
-use Rattle.jxl_turns.specs.declared.End.{End}
-use Rattle.jxl_turns.specs.declared.End.the-variants as End
+use Rattle.jxl_turns.specs.declared.TurnEnd.{TurnEnd}
+use Rattle.jxl_turns.specs.declared.TurnEnd.the-variants as TurnEnd
 use Rattle.jxl_turns.specs.declared.AfterTurn.{AfterTurn}
 use Rattle.jxl_turns.specs.declared.Way.{Way}
 use Rattle.jxl_turns.specs.declared.Way.the-variants as W
-use Rattle.jxl_turns.specs.declared.Following.{Following}
-use Rattle.jxl_turns.specs.declared.Following.the-variants as N
+use Rattle.jxl_turns.specs.declared.AfterStep.{AfterStep}
+use Rattle.jxl_turns.specs.declared.AfterStep.the-variants as N
 
 -- the lines put, the record, the event held and the bytes of the input consumed then, and why the turn ended
 pub record Turned : Type 0 where
   pub lines : List ℕ
   pub parser : ContainerParser
-  pub held : Held
+  pub held : MaybeEvent
   pub consumed : ℕ
-  pub end : End
+  pub end : TurnEnd
 
-abbrev pub over : End → ContainerParser → Held → ℕ → Turned
+abbrev pub over : TurnEnd → ContainerParser → MaybeEvent → ℕ → Turned
 over e p h k = record { lines = []; parser = p; held = h; consumed = k; end = e }
 
 abbrev pub behind : List ℕ → Turned → Turned
@@ -39,31 +39,31 @@ behind l t = record { lines = l ++ t .lines; parser = t .parser; held = t .held;
 
 -- the next event goes to the joiner, and the line of the event that this hands back, if any, into the room; with no room for it the
 -- turn ends before the event. The input stands at `base` in the file, and k bytes of it are consumed
-abbrev pub turnBy : (ℕ → ContainerParser → Held → ℕ → Turned) → ℕ → ContainerParser → Held → ℕ → ℕ → Following → Turned
+abbrev pub turnBy : (ℕ → ContainerParser → MaybeEvent → ℕ → Turned) → ℕ → ContainerParser → MaybeEvent → ℕ → ℕ → AfterStep → Turned
 turnBy go room p h base k (N.Shown e q m) =
     elim (leb (length (texts (handed (adding h (shifted base e) .out)))) room) [
       | true ↦ behind (texts (handed (adding h (shifted base e) .out))) (go (room - length (texts (handed (adding h (shifted base e) .out)))) q (adding h (shifted base e) .next .held) m)
-      | false ↦ over End.Full p h k
+      | false ↦ over TurnEnd.Full p h k
     ]
-turnBy go room p h base k (N.Stopped w q m) = over (End.Stopped w) q h m
+turnBy go room p h base k (N.Stopped w q m) = over (TurnEnd.Stopped w) q h m
 
 -- at most so many steps; where they run out it ends as if full, which `turnFrom` never comes to (FullMeansFull)
-unfoldable pub turning : ℕ → ℕ → List ℕ → ℕ → ContainerParser → Held → ℕ → Turned
-turning zero base s room p h k = over End.Full p h k
+unfoldable pub turning : ℕ → ℕ → List ℕ → ℕ → ContainerParser → MaybeEvent → ℕ → Turned
+turning zero base s room p h k = over TurnEnd.Full p h k
 turning (suc turns) base s room p h k = turnBy (turning turns base s) room p h base k (nextOf p k (drop k s))
 
 -- a turn for each event, and one for the stop
-abbrev pub turnFrom : ℕ → List ℕ → ℕ → ContainerParser → Held → ℕ → Turned
+abbrev pub turnFrom : ℕ → List ℕ → ℕ → ContainerParser → MaybeEvent → ℕ → Turned
 turnFrom base s room p h k = turning (suc (length (Feeding.take p k (drop k s) .shown))) base s room p h k
 
 -- an input that would pass 2^64 - 1 in the file is not looked at
-unfoldable pub turnOf : ℕ → List ℕ → ℕ → ContainerParser → Held → Turned
+unfoldable pub turnOf : ℕ → List ℕ → ℕ → ContainerParser → MaybeEvent → Turned
 turnOf base s room p h =
-    elim (ltb (base + length s) (2 ^ 64)) [ true ↦ turnFrom base s room p h 0 | false ↦ over End.TooFar p h 0 ]
+    elim (ltb (base + length s) (2 ^ 64)) [ true ↦ turnFrom base s room p h 0 | false ↦ over TurnEnd.TooFar p h 0 ]
 
 -- what the short way through a turn claims: an input of n bytes inside the part held makes it longer, puts no line, and more is wanted
-abbrev pub Leads : Way → ContainerParser → Held → ℕ → ℕ → Type 0
-Leads (W.Short q j) p h base n = (s : List ℕ) (room : ℕ) → length s ≡ n → turnFrom base s room p h 0 ≡ over (End.Stopped S.Want) q (j .held) n
+abbrev pub Leads : Way → ContainerParser → MaybeEvent → ℕ → ℕ → Type 0
+Leads (W.Short q j) p h base n = (s : List ℕ) (room : ℕ) → length s ≡ n → turnFrom base s room p h 0 ≡ over (TurnEnd.Stopped S.Want) q (j .held) n
 Leads W.Long p h base n = Unit {0}
 
 -- what an answer of the code says, with the buffer then and before

@@ -2,13 +2,13 @@
 use jxl_container::ContainerParser;
 use jxl_container::DetectState;
 use jxl_container::JxlpIndexState;
-use jxl_container::parse::Event;
+use jxl_container::parse::ParseEvent;
 use jxl_container::parse::Step;
-use jxl_files::Held;
 use jxl_files::Joiner;
+use jxl_files::MaybeEvent;
 use jxl_listing::Line;
 use jxl_listing::Put;
-use jxl_listing::Stop;
+use jxl_listing::StopWord;
 ghost use mathlib.Core.Path.{_≡_};
 ghost use Prim.Native.Nat.{_+_, _-_, _^_, _≤_, _<_, min};
 ghost use lib.Dec.{eqb, ltb};
@@ -21,31 +21,31 @@ ghost use Rattle.jxl_listing.specs.Putting.{leaves, pasted, putOf};
 ghost use Rattle.jxl_turns.specs.Listed.{fileText, listOf, nextOf, placeOf, texts};
 ghost use Rattle.jxl_turns.specs.Turned.{Told, Leads, turnFrom, turnOf};
 ghost use Rattle.jxl_files.specs.Joiner.{handed};
-ghost use Rattle.jxl_files.specs.declared.Held.the-variants.{Waiting};
-ghost use Rattle.jxl_container.specs.declared.parse.Event.the-variants.{Codestream};
+ghost use Rattle.jxl_files.specs.declared.MaybeEvent.the-variants.{Some};
+ghost use Rattle.jxl_container.specs.declared.parse.ParseEvent.the-variants.{Codestream};
 
 // What comes next: an event with its place in the file, or the stop; and the record and the place then.
-pub enum Following {
+pub enum AfterStep {
     Shown {
-        event: Event,
+        event: ParseEvent,
         parser: ContainerParser,
         at: usize,
     },
     Stopped {
-        stop: Stop,
+        stop: StopWord,
         parser: ContainerParser,
         at: usize,
     },
 }
 
 // The event with `base` added to its place.
-fn place(event: Event, base: usize) -> Event
+fn place(event: ParseEvent, base: usize) -> ParseEvent
     requires { ⌜ base + placeOf event < 2 ^ 64 ⌝ }
     ensures { λ r. ⌜ r ≡ shifted base event ⌝ }
 {
     match event {
-        Event::Codestream { at, len } => Event::Codestream { at: base + at, len },
-        Event::AuxData { ty, at, len } => Event::AuxData {
+        ParseEvent::Codestream { at, len } => ParseEvent::Codestream { at: base + at, len },
+        ParseEvent::AuxBoxData { ty, at, len } => ParseEvent::AuxBoxData {
             ty,
             at: base + at,
             len,
@@ -55,7 +55,7 @@ fn place(event: Event, base: usize) -> Event
 }
 
 // One step on the file from `at` on.
-fn next(parser: ContainerParser, file: &[u8], at: usize) -> Following
+fn next(parser: ContainerParser, file: &[u8], at: usize) -> AfterStep
     requires { ⌜ at ≤ length (now file) ⌝ }
     ensures { λ r. ⌜ r ≡ nextOf parser at (drop at (now (file .entry))) ⌝ }
 {
@@ -64,13 +64,13 @@ fn next(parser: ContainerParser, file: &[u8], at: usize) -> Following
             event,
             next,
             consumed,
-        } => Following::Shown {
+        } => AfterStep::Shown {
             event: place(event, at),
             parser: next,
             at: at + consumed,
         },
-        Step::Want { next, consumed } => Following::Stopped {
-            stop: Stop::Want,
+        Step::Want { next, consumed } => AfterStep::Stopped {
+            stop: StopWord::Want,
             parser: next,
             at: at + consumed,
         },
@@ -78,8 +78,8 @@ fn next(parser: ContainerParser, file: &[u8], at: usize) -> Following
             refusal,
             next,
             consumed,
-        } => Following::Stopped {
-            stop: Stop::refused(refusal),
+        } => AfterStep::Stopped {
+            stop: StopWord::refused(refusal),
             parser: next,
             at: at + consumed,
         },
@@ -106,7 +106,7 @@ fn measure(file: &[u8]) -> usize
     let mut total = 0;
     loop {
         match next(parser, file, at) {
-            Following::Shown {
+            AfterStep::Shown {
                 event,
                 parser: then,
                 at: further,
@@ -115,7 +115,7 @@ fn measure(file: &[u8]) -> usize
                 parser = then;
                 at = further;
             }
-            Following::Stopped {
+            AfterStep::Stopped {
                 stop,
                 parser: _,
                 at: consumed,
@@ -139,7 +139,7 @@ fn write(file: &[u8], out: &mut [u8]) -> usize
     let mut written = 0;
     loop {
         match next(parser, file, at) {
-            Following::Shown {
+            AfterStep::Shown {
                 event,
                 parser: then,
                 at: further,
@@ -148,7 +148,7 @@ fn write(file: &[u8], out: &mut [u8]) -> usize
                 parser = then;
                 at = further;
             }
-            Following::Stopped {
+            AfterStep::Stopped {
                 stop,
                 parser: _,
                 at: consumed,
@@ -182,9 +182,9 @@ pub fn list_file(file: &[u8], out: &mut [u8]) -> Put
 }
 
 // Why a turn ended: the next line has no room; the parser wants more or refuses; the input's place passes 2^64 - 1.
-pub enum End {
+pub enum TurnEnd {
     Full,
-    Stopped(Stop),
+    Stopped(StopWord),
     TooFar,
 }
 
@@ -194,17 +194,17 @@ pub struct AfterTurn {
     pub joiner: Joiner,
     pub consumed: usize,
     pub written: usize,
-    pub end: End,
+    pub end: TurnEnd,
 }
 
 // Puts the line of an event that a joiner handed back, if it did.
-fn put_held(out: &mut [u8], at: usize, held: Held) -> Put
+fn put_held(out: &mut [u8], at: usize, held: MaybeEvent) -> Put
     requires { ⌜ at ≤ length (now out) ⌝ }
     ensures { λ r. ⌜ leaves r (now (out .exit)) ≡ putOf (now (out .entry)) at (texts (handed held)) ⌝ }
 {
     match held {
-        Held::Nothing => Put::Written(at),
-        Held::Waiting(event) => jxl_listing::put_line(out, at, Line::Shown(event)),
+        MaybeEvent::None => Put::Written(at),
+        MaybeEvent::Some(event) => jxl_listing::put_line(out, at, Line::Shown(event)),
     }
 }
 
@@ -214,7 +214,7 @@ fn after(
     joiner: Joiner,
     consumed: usize,
     written: usize,
-    end: End,
+    end: TurnEnd,
 ) -> AfterTurn
     ensures { λ r. ⌜ r ≡ record { parser = parser; joiner = joiner; consumed = consumed; written = written; end = end } ⌝ }
 {
@@ -229,7 +229,7 @@ fn after(
 
 // The work of a turn on an input whose place fits. `t` is what it leaves if the next line has no room.
 fn turn_from(start: AfterTurn, base: usize, input: &[u8], out: &mut [u8]) -> AfterTurn
-    requires { ⌜ (start .consumed ≡ 0) × (start .written ≡ 0) × (start .end ≡ End.Full) × (base + length (now input) < 2 ^ 64) ⌝ }
+    requires { ⌜ (start .consumed ≡ 0) × (start .written ≡ 0) × (start .end ≡ TurnEnd.Full) × (base + length (now input) < 2 ^ 64) ⌝ }
     ensures { λ r. ⌜ Told r (now (out .exit)) (now (out .entry)) (turnFrom base (now (input .entry)) (length (now (out .entry))) (start .parser) (start .joiner .held) 0) ⌝ }
 {
     let mut t = start;
@@ -247,32 +247,38 @@ fn turn_from(start: AfterTurn, base: usize, input: &[u8], out: &mut [u8]) -> Aft
                 let handed = added.out;
                 let held = added.next;
                 match put_held(out, t.written, handed) {
-                    Put::Written(w) => t = after(next, held, k + consumed, w, End::Full),
+                    Put::Written(w) => t = after(next, held, k + consumed, w, TurnEnd::Full),
                     Put::NoRoom(_) => return t,
                 }
             }
             Step::Want { next, consumed } => {
-                return after(next, j, k + consumed, t.written, End::Stopped(Stop::Want));
+                return after(
+                    next,
+                    j,
+                    k + consumed,
+                    t.written,
+                    TurnEnd::Stopped(StopWord::Want),
+                );
             }
             Step::Refused {
                 next,
                 consumed,
                 refusal,
             } => {
-                let stop = Stop::refused(refusal);
-                return after(next, j, k + consumed, t.written, End::Stopped(stop));
+                let stop = StopWord::refused(refusal);
+                return after(next, j, k + consumed, t.written, TurnEnd::Stopped(stop));
             }
         }
     }
 }
 
 // The event, made anew; only one with a payload is worth it.
-fn same_event(event: Event) -> Event
+fn same_event(event: ParseEvent) -> ParseEvent
     ensures { λ r. ⌜ r ≡ event ⌝ }
 {
     match event {
-        Event::Codestream { at, len } => Event::Codestream { at, len },
-        Event::AuxData { ty, at, len } => Event::AuxData { ty, at, len },
+        ParseEvent::Codestream { at, len } => ParseEvent::Codestream { at, len },
+        ParseEvent::AuxBoxData { ty, at, len } => ParseEvent::AuxBoxData { ty, at, len },
         _ => event,
     }
 }
@@ -283,11 +289,11 @@ fn anew(joiner: Joiner) -> Joiner
 {
     let held = joiner.held;
     match held {
-        Held::Nothing => Joiner {
-            held: Held::Nothing,
+        MaybeEvent::None => Joiner {
+            held: MaybeEvent::None,
         },
-        Held::Waiting(event) => Joiner {
-            held: Held::Waiting(same_event(event)),
+        MaybeEvent::Some(event) => Joiner {
+            held: MaybeEvent::Some(same_event(event)),
         },
     }
 }
@@ -330,14 +336,14 @@ fn reaches(at: usize, len: usize, base: usize, n: usize) -> bool
 // The way of a turn on `n` bytes behind the codestream part of `len` bytes at `at`.
 fn way_behind(parser: ContainerParser, at: usize, len: usize, n: usize) -> Way
     requires { ⌜ len + n < 2 ^ 64 ⌝ }
-    ensures { λ r. ⌜ Leads r parser (Waiting (Codestream at len)) (at + len) n ⌝ }
+    ensures { λ r. ⌜ Leads r parser (Some (Codestream at len)) (at + len) n ⌝ }
 {
     let state = parser.state;
     let jxlp = parser.jxlp;
     match state {
         DetectState::InCodestream {
             kind,
-            left,
+            bytes_left: left,
             pending_no_more_aux_box,
         } => {
             if pending_no_more_aux_box {
@@ -354,13 +360,13 @@ fn way_behind(parser: ContainerParser, at: usize, len: usize, n: usize) -> Way
                 parser: ContainerParser {
                     state: DetectState::InCodestream {
                         kind,
-                        left: then,
+                        bytes_left: then,
                         pending_no_more_aux_box: false,
                     },
                     jxlp,
                 },
                 joiner: Joiner {
-                    held: Held::Waiting(Event::Codestream { at, len: len + n }),
+                    held: MaybeEvent::Some(ParseEvent::Codestream { at, len: len + n }),
                 },
             }
         }
@@ -374,9 +380,9 @@ fn way_from(parser: ContainerParser, joiner: Joiner, base: usize, n: usize) -> W
 {
     let held = joiner.held;
     match held {
-        Held::Nothing => Way::Long,
-        Held::Waiting(event) => match event {
-            Event::Codestream { at, len } => {
+        MaybeEvent::None => Way::Long,
+        MaybeEvent::Some(event) => match event {
+            ParseEvent::Codestream { at, len } => {
                 if reaches(at, len, base, n) {
                     way_behind(parser, at, len, n)
                 } else {
@@ -404,13 +410,19 @@ pub fn turn(
             Way::Short {
                 parser: next,
                 joiner: longer,
-            } => after(next, longer, input.len(), 0, End::Stopped(Stop::Want)),
+            } => after(
+                next,
+                longer,
+                input.len(),
+                0,
+                TurnEnd::Stopped(StopWord::Want),
+            ),
             Way::Long => {
-                let start = after(parser, anew(joiner), 0, 0, End::Full);
+                let start = after(parser, anew(joiner), 0, 0, TurnEnd::Full);
                 turn_from(start, base, input, out)
             }
         }
     } else {
-        after(parser, anew(joiner), 0, 0, End::TooFar)
+        after(parser, anew(joiner), 0, 0, TurnEnd::TooFar)
     }
 }

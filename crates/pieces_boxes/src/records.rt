@@ -1,23 +1,23 @@
 // The records that no file leads to, each beside its lawful neighbours, and parsers that have refused.
 use crate::run;
 use jxl_container::BitstreamKind;
+use jxl_container::BoxRefusal;
+use jxl_container::BytesLeft;
 use jxl_container::ContainerParser;
 use jxl_container::DetectState;
 use jxl_container::JxlpIndexState;
-use jxl_container::Left;
-use jxl_container::Refusal;
 
 fn parser(state: DetectState, jxlp: JxlpIndexState) -> ContainerParser {
     ContainerParser { state, jxlp }
 }
 
 // A record that awaits a `jxlp` index.
-fn awaiting_index(left: Left, jxlp: JxlpIndexState) -> ContainerParser {
+fn awaiting_index(left: BytesLeft, jxlp: JxlpIndexState) -> ContainerParser {
     parser(DetectState::WaitingJxlpIndex(left), jxlp)
 }
 
 // A record that awaits the inner type of a `brob`.
-fn awaiting_type(left: Left, jxlp: JxlpIndexState) -> ContainerParser {
+fn awaiting_type(left: BytesLeft, jxlp: JxlpIndexState) -> ContainerParser {
     parser(DetectState::WaitingInnerType(left), jxlp)
 }
 
@@ -25,7 +25,7 @@ fn awaiting_type(left: Left, jxlp: JxlpIndexState) -> ContainerParser {
 fn in_bare(jxlp: JxlpIndexState) -> ContainerParser {
     let state = DetectState::InCodestream {
         kind: BitstreamKind::BareCodestream,
-        left: Left::ToEnd,
+        bytes_left: BytesLeft::ToEnd,
         pending_no_more_aux_box: true,
     };
     parser(state, jxlp)
@@ -35,14 +35,14 @@ fn in_bare(jxlp: JxlpIndexState) -> ContainerParser {
 fn in_exif(jxlp: JxlpIndexState) -> ContainerParser {
     let state = DetectState::InAuxBox {
         ty: 0x45786966,
-        left: Left::Bytes(2),
+        bytes_left: BytesLeft::Bytes(2),
     };
     parser(state, jxlp)
 }
 
 // An index awaited with no `jxlp` open.
 pub fn index_with_no_jxlp() {
-    let left = Left::Bytes(4);
+    let left = BytesLeft::Bytes(4);
     let index = b"\x00\x00\x00\x00";
     run::record(
         b"index awaited, no codestream box",
@@ -72,29 +72,29 @@ pub fn index_in_short_payload() {
     let index = b"\x00\x00\x00\x00";
     run::record(
         b"index awaited in 0 bytes",
-        awaiting_index(Left::Bytes(0), open),
+        awaiting_index(BytesLeft::Bytes(0), open),
         index,
     );
     run::record(
         b"index awaited in 3 bytes",
-        awaiting_index(Left::Bytes(3), open),
+        awaiting_index(BytesLeft::Bytes(3), open),
         index,
     );
     run::record(
         b"index awaited in 4 bytes",
-        awaiting_index(Left::Bytes(4), open),
+        awaiting_index(BytesLeft::Bytes(4), open),
         index,
     );
     run::record(
         b"index awaited to the end",
-        awaiting_index(Left::ToEnd, open),
+        awaiting_index(BytesLeft::ToEnd, open),
         index,
     );
 }
 
 // An index awaited above 2^31.
 pub fn index_too_large() {
-    let left = Left::Bytes(4);
+    let left = BytesLeft::Bytes(4);
     run::record(
         b"index 2^31 + 1 awaited",
         awaiting_index(left, JxlpIndexState::Jxlp(0x8000_0001)),
@@ -117,22 +117,22 @@ pub fn type_in_short_payload() {
     let none = JxlpIndexState::Initial;
     run::record(
         b"inner type awaited in 0 bytes",
-        awaiting_type(Left::Bytes(0), none),
+        awaiting_type(BytesLeft::Bytes(0), none),
         b"Exif",
     );
     run::record(
         b"inner type awaited in 3 bytes",
-        awaiting_type(Left::Bytes(3), none),
+        awaiting_type(BytesLeft::Bytes(3), none),
         b"Exif",
     );
     run::record(
         b"inner type awaited in 4 bytes",
-        awaiting_type(Left::Bytes(4), none),
+        awaiting_type(BytesLeft::Bytes(4), none),
         b"Exif",
     );
     run::record(
         b"inner type awaited to the end",
-        awaiting_type(Left::ToEnd, none),
+        awaiting_type(BytesLeft::ToEnd, none),
         b"Exif",
     );
 }
@@ -151,7 +151,7 @@ pub fn current_index(jxlp: JxlpIndexState) {
     );
     run::record(
         b"at an inner type",
-        awaiting_type(Left::Bytes(4), jxlp),
+        awaiting_type(BytesLeft::Bytes(4), jxlp),
         b"Exif",
     );
     run::record(b"in a box", in_exif(jxlp), b"ab");
@@ -162,7 +162,7 @@ pub fn current_index(jxlp: JxlpIndexState) {
 pub fn refused_with_large_index() {
     let state = DetectState::Refused {
         kind: BitstreamKind::Container,
-        refusal: Refusal::ValidationFailed,
+        refusal: BoxRefusal::ValidationFailed,
     };
     run::again(
         b"refused 2 with index 2^31",

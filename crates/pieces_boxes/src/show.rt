@@ -1,9 +1,9 @@
 // What a piece shows, as words on standard output.
 use jxl_container::BitstreamKind;
+use jxl_container::BoxRefusal;
 use jxl_container::ContainerParser;
 use jxl_container::JxlpIndexState;
-use jxl_container::Refusal;
-use jxl_container::parse::Event;
+use jxl_container::parse::ParseEvent;
 
 pub fn text(s: &[u8]) {
     io::write_all(1, s);
@@ -53,29 +53,33 @@ fn reach(to_end: bool) {
 }
 
 // An event of a step whose input starts at `base` of the piece.
-pub fn event(e: Event, base: usize) {
+pub fn event(e: ParseEvent, base: usize) {
     match e {
-        Event::Kind(k) => {
+        ParseEvent::BitstreamKind(k) => {
             text(b" KIND");
             kind(k);
         }
-        Event::NoMoreAux => text(b" NO_MORE_AUX"),
-        Event::Codestream { at, len } => {
+        ParseEvent::NoMoreAuxBox => text(b" NO_MORE_AUX"),
+        ParseEvent::Codestream { at, len } => {
             text(b" CODESTREAM");
             place(std::num::wrapping_add_usize(base, at), len);
         }
-        Event::AuxStart { ty, brotli, to_end } => {
+        ParseEvent::AuxBoxStart {
+            ty,
+            brotli_compressed: brotli,
+            last_box: to_end,
+        } => {
             text(b" AUX_START");
             box_type(ty);
             compressed(brotli);
             reach(to_end);
         }
-        Event::AuxData { ty, at, len } => {
+        ParseEvent::AuxBoxData { ty, at, len } => {
             text(b" AUX_DATA");
             box_type(ty);
             place(std::num::wrapping_add_usize(base, at), len);
         }
-        Event::AuxEnd { ty } => {
+        ParseEvent::AuxBoxEnd { ty } => {
             text(b" AUX_END");
             box_type(ty);
         }
@@ -84,10 +88,10 @@ pub fn event(e: Event, base: usize) {
 }
 
 // A refusal by the paper's number.
-pub fn refusal(r: Refusal) {
+pub fn refusal(r: BoxRefusal) {
     match r {
-        Refusal::InvalidBox => text(b" refusal 1"),
-        Refusal::ValidationFailed => text(b" refusal 2"),
+        BoxRefusal::InvalidBox => text(b" refusal 1"),
+        BoxRefusal::ValidationFailed => text(b" refusal 2"),
     }
 }
 

@@ -1,7 +1,7 @@
 // What the steps show, in the words of the list, put one behind the other into a buffer.
 use jxl_container::BitstreamKind;
-use jxl_container::Refusal;
-use jxl_container::parse::Event;
+use jxl_container::BoxRefusal;
+use jxl_container::parse::ParseEvent;
 
 // Puts the first letter of a token, behind a space unless it is the first token.
 pub fn start(out: &mut [u8], to: usize, letter: u8) -> usize {
@@ -47,36 +47,40 @@ fn choice(out: &mut [u8], to: usize, first: bool, yes: u8, no: u8) -> usize {
 }
 
 // Puts an event of a step whose input starts at `base` of the file.
-pub fn event(out: &mut [u8], to: usize, shown: Event, base: usize) -> usize {
+pub fn event(out: &mut [u8], to: usize, shown: ParseEvent, base: usize) -> usize {
     match shown {
-        Event::Kind(kind) => {
+        ParseEvent::BitstreamKind(kind) => {
             let next = start(out, to, b'K');
             replay_text::put_byte(out, next, letter(kind))
         }
-        Event::NoMoreAux => start(out, to, b'N'),
-        Event::Codestream { at, len } => {
+        ParseEvent::NoMoreAuxBox => start(out, to, b'N'),
+        ParseEvent::Codestream { at, len } => {
             let next = start(out, to, b'C');
             span(out, next, std::num::wrapping_add_usize(base, at), len)
         }
-        Event::AuxStart { ty, brotli, to_end } => {
+        ParseEvent::AuxBoxStart {
+            ty,
+            brotli_compressed: brotli,
+            last_box: to_end,
+        } => {
             let next = typed(out, to, b'S', ty);
             let end = choice(out, next, brotli, b'c', b'p');
             choice(out, end, to_end, b'e', b'b')
         }
-        Event::AuxData { ty, at, len } => {
+        ParseEvent::AuxBoxData { ty, at, len } => {
             let next = typed(out, to, b'D', ty);
             span(out, next, std::num::wrapping_add_usize(base, at), len)
         }
-        Event::AuxEnd { ty } => typed(out, to, b'E', ty),
+        ParseEvent::AuxBoxEnd { ty } => typed(out, to, b'E', ty),
     }
 }
 
 // Puts a refusal by its number.
-pub fn refusal(out: &mut [u8], to: usize, told: Refusal) -> usize {
+pub fn refusal(out: &mut [u8], to: usize, told: BoxRefusal) -> usize {
     let next = start(out, to, b'R');
     match told {
-        Refusal::InvalidBox => replay_text::put_byte(out, next, b'1'),
-        Refusal::ValidationFailed => replay_text::put_byte(out, next, b'2'),
+        BoxRefusal::InvalidBox => replay_text::put_byte(out, next, b'1'),
+        BoxRefusal::ValidationFailed => replay_text::put_byte(out, next, b'2'),
     }
 }
 

@@ -2,7 +2,7 @@
 use crate::answer;
 use jxl_container::BitstreamKind;
 use jxl_container::ContainerParser;
-use jxl_container::parse::Event;
+use jxl_container::parse::ParseEvent;
 use jxl_container::parse::Step;
 
 // The record, the bytes consumed, the kind that an event told, the place behind the answer so far, and how the last step ended.
@@ -35,35 +35,35 @@ fn is_at(file: &[u8], at: usize, len: usize, shown: &[u8]) -> bool {
 }
 
 // Whether the payload that the event hands out is that part of the file, and empty where it shows none.
-fn is_payload(file: &[u8], base: usize, input: &[u8], event: Event) -> bool {
+fn is_payload(file: &[u8], base: usize, input: &[u8], event: ParseEvent) -> bool {
     let shown = jxl_container::parse::payload(input, event);
     match event {
-        Event::Codestream { at, len } => is_at(
+        ParseEvent::Codestream { at, len } => is_at(
             file,
             std::num::wrapping_add_usize(base, at),
             len,
             shown,
         ),
-        Event::AuxData { ty: _, at, len } => is_at(
+        ParseEvent::AuxBoxData { ty: _, at, len } => is_at(
             file,
             std::num::wrapping_add_usize(base, at),
             len,
             shown,
         ),
-        Event::Kind(_) => shown.len() == 0,
-        Event::NoMoreAux => shown.len() == 0,
-        Event::AuxStart {
+        ParseEvent::BitstreamKind(_) => shown.len() == 0,
+        ParseEvent::NoMoreAuxBox => shown.len() == 0,
+        ParseEvent::AuxBoxStart {
             ty: _,
-            brotli: _,
-            to_end: _,
+            brotli_compressed: _,
+            last_box: _,
         } => shown.len() == 0,
-        Event::AuxEnd { ty: _ } => shown.len() == 0,
+        ParseEvent::AuxBoxEnd { ty: _ } => shown.len() == 0,
     }
 }
 
 // The kind told by the events up to `event`.
-fn kind_after(event: Event, before: BitstreamKind) -> BitstreamKind {
-    if let Event::Kind(kind) = event {
+fn kind_after(event: ParseEvent, before: BitstreamKind) -> BitstreamKind {
+    if let ParseEvent::BitstreamKind(kind) = event {
         kind
     } else {
         before

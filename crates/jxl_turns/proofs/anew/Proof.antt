@@ -1,6 +1,6 @@
 use mathlib.Core.Path.{_≡_, sym, ap, _∙_}
-use Rattle.jxl_files.specs.declared.Held.{Held}
-use Rattle.jxl_files.specs.declared.Held.the-variants.{Nothing, Waiting}
+use Rattle.jxl_files.specs.declared.MaybeEvent.{MaybeEvent}
+use Rattle.jxl_files.specs.declared.MaybeEvent.the-variants.{None, Some}
 use borrow.Author.Needs.{needs}
 use Rattle.jxl_turns.proofs.anew.Statement.{statement}
 use Rattle.jxl_turns.proofs.anew.Tie as tie
@@ -15,10 +15,10 @@ same-event-requires : tie.Need-same-event-requires
 same-event-requires c κs = search needs
 
 returns : tie.Need-returns
-returns c = ap (λ (h : Held). record { held = h }) (sym (c .enum-told .given .1))
+returns c = ap (λ (h : MaybeEvent). record { held = h }) (sym (c .enum-told .given .1))
 
 returns-2 : tie.Need-returns-2
-returns-2 c = ap (λ (h : Held). record { held = h }) (ap Waiting (c .same-event .ensures) ∙ sym (c .before .before .held .given .1))
+returns-2 c = ap (λ (h : MaybeEvent). record { held = h }) (ap Some (c .same-event .ensures) ∙ sym (c .before .before .held .given .1))
 
 pub anew-spec : {M : Type 1} → statement M
 anew-spec = tie.close (tie.spec enum-told enum-known-held same-event-requires returns returns-2)

@@ -7,20 +7,20 @@ use types.Run.{OneOf}
 use denote.Enum.Declared.{tagOf}
 use borrow.Author.Needs.{needs}
 use Rattle.jxl_container.specs.Step.{shifted}
-use Rattle.jxl_container.specs.declared.parse.Event.{Event}
-use Rattle.jxl_container.proofs.parse.Event as Events
-use Rattle.jxl_container.specs.declared.parse.Event.the-variants as E
+use Rattle.jxl_container.specs.declared.parse.ParseEvent.{ParseEvent}
+use Rattle.jxl_container.proofs.parse.ParseEvent as Events
+use Rattle.jxl_container.specs.declared.parse.ParseEvent.the-variants as E
 use Rattle.jxl_turns.proofs.place.Statement.{statement}
 use Rattle.jxl_turns.proofs.place.Tie as tie
 
 -- an event with no payload has no place
-no-place : (base : ℕ) (e : Event) → OneOf (0 ∷ 1 ∷ 3 ∷ 5 ∷ []) (tagOf Events.the-type e) → e ≡ shifted base e
-no-place base (E.Kind k) o = refl
-no-place base E.NoMoreAux o = refl
+no-place : (base : ℕ) (e : ParseEvent) → OneOf (0 ∷ 1 ∷ 3 ∷ 5 ∷ []) (tagOf Events.the-type e) → e ≡ shifted base e
+no-place base (E.BitstreamKind k) o = refl
+no-place base E.NoMoreAuxBox o = refl
 no-place base (E.Codestream a n) o = elim o [ inl x ↦ absurd (omega (arith, x)) | inr (inl x) ↦ absurd (omega (arith, x)) | inr (inr (inl x)) ↦ absurd (omega (arith, x)) | inr (inr (inr x)) ↦ absurd (omega (arith, x)) ]
-no-place base (E.AuxStart t b x) o = refl
-no-place base (E.AuxData t a n) o = elim o [ inl x ↦ absurd (omega (arith, x)) | inr (inl x) ↦ absurd (omega (arith, x)) | inr (inr (inl x)) ↦ absurd (omega (arith, x)) | inr (inr (inr x)) ↦ absurd (omega (arith, x)) ]
-no-place base (E.AuxEnd t) o = refl
+no-place base (E.AuxBoxStart t b x) o = refl
+no-place base (E.AuxBoxData t a n) o = elim o [ inl x ↦ absurd (omega (arith, x)) | inr (inl x) ↦ absurd (omega (arith, x)) | inr (inr (inl x)) ↦ absurd (omega (arith, x)) | inr (inr (inr x)) ↦ absurd (omega (arith, x)) ]
+no-place base (E.AuxBoxEnd t) o = refl
 
 enum-known-event : tie.Need-enum-known-event
 enum-known-event c = search needs

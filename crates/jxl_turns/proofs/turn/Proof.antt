@@ -6,7 +6,7 @@ use borrow.Author.Needs.{needs}
 use Rattle.jxl_files.specs.declared.Joiner.{Joiner}
 use Rattle.jxl_turns.specs.Turned.{Told, Turned, turnFrom, turnOf}
 use Rattle.jxl_turns.specs.declared.AfterTurn.{AfterTurn}
-use Rattle.jxl_turns.specs.declared.End.the-variants as End
+use Rattle.jxl_turns.specs.declared.TurnEnd.the-variants as TurnEnd
 use Rattle.jxl_turns.proofs.Inside.{told-short}
 use Rattle.jxl_turns.proofs.Turning.{leaving, finish, turn-near, turn-too-far}
 use Rattle.jxl_turns.proofs.turn.Statement.{statement}
@@ -71,8 +71,8 @@ returns-3 c =
     let a = c .before .before .before .before .before .args in
     let d = now (a .out) in
     let t = turnOf (a .base) (now (a .input)) (length d) (a .parser) (a .joiner .held) in
-    subst (λ (r : AfterTurn). Told r d d t) (sym (c .after3 .ensures ∙ ap (λ (j : Joiner). leaving (a .parser) j 0 0 End.TooFar) (c .before .anew2 .ensures)))
-    (finish d d t (leaving (a .parser) (a .joiner) 0 0 End.TooFar) (omega arith) refl
+    subst (λ (r : AfterTurn). Told r d d t) (sym (c .after3 .ensures ∙ ap (λ (j : Joiner). leaving (a .parser) j 0 0 TurnEnd.TooFar) (c .before .anew2 .ensures)))
+    (finish d d t (leaving (a .parser) (a .joiner) 0 0 TurnEnd.TooFar) (omega arith) refl
     (sym (turn-too-far (a .base) (now (a .input)) (length d) (a .parser) (a .joiner .held) (omega arith))))
 
 pub turn-spec : {M : Type 1} → statement M

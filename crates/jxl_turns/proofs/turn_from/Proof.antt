@@ -10,11 +10,11 @@ use Rattle.jxl_container.specs.Step.{shows, wants, refuses, stepOf, told}
 use Rattle.jxl_files.specs.Feeding.{Seen}
 use Rattle.jxl_listing.specs.Putting.{leaves}
 use Rattle.jxl_listing.specs.declared.Put.{Put}
-use Rattle.jxl_listing.specs.declared.Stop.{Stop}
+use Rattle.jxl_listing.specs.declared.StopWord.{StopWord}
 use Rattle.jxl_turns.specs.Listed.{nextIn}
 use Rattle.jxl_turns.specs.Turned.{turnFrom}
 use Rattle.jxl_turns.specs.declared.AfterTurn.{AfterTurn}
-use Rattle.jxl_turns.specs.declared.End.the-variants as End
+use Rattle.jxl_turns.specs.declared.TurnEnd.the-variants as TurnEnd
 use Rattle.jxl_turns.proofs.Text.{count, far, taken-shown, shown-fits, wants-fits, refuses-fits}
 use Rattle.jxl_turns.proofs.Turning.{leaving, Going, going-first, going-on, going-full, going-stopped}
 use Rattle.jxl_turns.proofs.turn_from.Statement.{statement}
@@ -166,7 +166,7 @@ returns-3 c =
     let n = c .before .before .before .next3 .given .0 in
     let l = c .before .before .before .before .before .before .before .before .before .loop in
     going-stopped (a .base) (now (a .input)) (now (a .out)) _ (l .out) (l .t) (l .inv) (ap (nextIn (l .t .consumed)) (refused (c .before .before .before)))
-    (c .after3 .ensures ∙ ap (λ (x : Stop). leaving (n .0) (l .t .joiner) (l .t .consumed + n .1 .0) (l .t .written) (End.Stopped x)) (c .before .refused .ensures))
+    (c .after3 .ensures ∙ ap (λ (x : StopWord). leaving (n .0) (l .t .joiner) (l .t .consumed + n .1 .0) (l .t .written) (TurnEnd.Stopped x)) (c .before .refused .ensures))
 
 pub turn-from-spec : {M : Type 1} → statement M
 turn-from-spec =
