@@ -1,7 +1,7 @@
 // What the drivers of the bench share: the packets of a file, and the loop over its steps.
 use jxl_container::ContainerParser;
-use jxl_container::parse::ParseEvent;
-use jxl_container::parse::Step;
+use jxl_container::ParseEvent;
+use jxl_container::StepResult;
 
 // The bytes from `at` up to `end`; none if they lie outside.
 pub fn part(file: &[u8], at: usize, end: usize) -> &[u8] {
@@ -58,8 +58,8 @@ pub fn events(
     let mut sum: u64 = 0;
     let mut steps: u64 = 0;
     while steps < most {
-        match parser.step(part(file, at, end)) {
-            Step::Shown {
+        match jxl_container::step(parser, part(file, at, end)) {
+            StepResult::Shown {
                 next,
                 consumed,
                 event,
@@ -68,7 +68,7 @@ pub fn events(
                 at = std::num::wrapping_add_usize(at, consumed);
                 sum = std::num::wrapping_add_u64(sum, weight(event));
             }
-            Step::Want { next, consumed } => {
+            StepResult::Want { next, consumed } => {
                 if end == file.len() {
                     return sum;
                 }
@@ -76,7 +76,7 @@ pub fn events(
                 at = std::num::wrapping_add_usize(at, consumed);
                 end = packet_end(end, packet, file.len());
             }
-            Step::Refused {
+            StepResult::Refused {
                 next: _,
                 consumed: _,
                 refusal: _,

@@ -1,6 +1,6 @@
 // All turns on a file, for the bench to call and time.
 use jxl_container::ContainerParser;
-use jxl_files::Joiner;
+use jxl_joiner::Joiner;
 use jxl_turns::TurnEnd;
 ghost use Prim.Native.Nat.{_≤_};
 

@@ -1,1 +1,3 @@
 pub mod OneAnswer
+pub mod Never
+pub mod Room

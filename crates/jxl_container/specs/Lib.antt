@@ -1,3 +1,1 @@
-pub mod Record
-pub mod Step
-pub mod Laws
+pub mod Told

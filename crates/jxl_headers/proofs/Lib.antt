@@ -2,3 +2,4 @@ pub mod Bytes
 pub mod Signature
 pub mod Header
 pub mod Unique
+pub mod And

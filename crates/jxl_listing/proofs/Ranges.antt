@@ -4,10 +4,10 @@ use mir.Val.{Val}
 use denote.Laws.{Is}
 use denote.Enum.Declared.{row}
 use denote.Enum.Laws.{owed}
-use Rattle.jxl_container.specs.declared.parse.ParseEvent.{ParseEvent}
-use Rattle.jxl_container.specs.declared.parse.ParseEvent.the-variants as E
-use Rattle.jxl_container.proofs.parse.ParseEvent.{the-type as event-type}
-use Rattle.jxl_container.proofs.parse.ParseEvent.Laws.{the-laws as event-laws}
+use Rattle.jxl_events.specs.declared.ParseEvent.{ParseEvent}
+use Rattle.jxl_events.specs.declared.ParseEvent.the-variants as E
+use Rattle.jxl_events.proofs.ParseEvent.{the-type as event-type}
+use Rattle.jxl_events.proofs.ParseEvent.Laws.{the-laws as event-laws}
 use Rattle.jxl_listing.specs.Lines.{EventInRange, InRange}
 use Rattle.jxl_listing.specs.declared.Line.{Line}
 use Rattle.jxl_listing.specs.declared.Line.the-variants.{Shown, Stopped}

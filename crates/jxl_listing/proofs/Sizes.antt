@@ -6,9 +6,9 @@ use Prim.Native.Nat.{ℕ, _+_, _≤_}
 use native.Mathlib.Omega.{arith}
 use lib.ListN.{length, length-append}
 use Rattle.jxl_headers.specs.Bytes.{if}
-use Rattle.jxl_container.specs.declared.BitstreamKind.{BitstreamKind}
-use Rattle.jxl_container.specs.declared.BitstreamKind.the-variants as K
-use Rattle.jxl_container.specs.declared.parse.ParseEvent.the-variants as E
+use Rattle.jxl_record.specs.declared.BitstreamKind.{BitstreamKind}
+use Rattle.jxl_record.specs.declared.BitstreamKind.the-variants as K
+use Rattle.jxl_events.specs.declared.ParseEvent.the-variants as E
 use Rattle.jxl_listing.specs.Digits.{decimal}
 use Rattle.jxl_listing.specs.Lines.{kindWord, brobWord, endWord, stop, stopWord, rest, text}
 use Rattle.jxl_listing.specs.Theorems.{MostBytes, LeastBytes}

@@ -5,10 +5,10 @@ use Prim.Native.Nat.{ℕ, _^_, _<_}
 use lib.Dec.{eqb}
 use Rattle.jxl_headers.specs.Bytes.{if}
 use Rattle.jxl_headers.specs.Refusals.{Why, refusal}
-use Rattle.jxl_container.specs.declared.BitstreamKind.{BitstreamKind}
-use Rattle.jxl_container.specs.declared.BitstreamKind.the-variants as K
-use Rattle.jxl_container.specs.declared.parse.ParseEvent.{ParseEvent}
-use Rattle.jxl_container.specs.declared.parse.ParseEvent.the-variants as E
+use Rattle.jxl_record.specs.declared.BitstreamKind.{BitstreamKind}
+use Rattle.jxl_record.specs.declared.BitstreamKind.the-variants as K
+use Rattle.jxl_events.specs.declared.ParseEvent.{ParseEvent}
+use Rattle.jxl_events.specs.declared.ParseEvent.the-variants as E
 use Rattle.jxl_listing.specs.Digits.{hex8, decimal}
 use Rattle.jxl_listing.specs.declared.StopWord.{StopWord}
 use Rattle.jxl_listing.specs.declared.StopWord.the-variants.{Want, Refused1, Refused2}

@@ -1,7 +1,7 @@
 // The lines of the listing: the bytes of one line, put into a lent buffer. The format stands in specs/Lines.antt.
-use jxl_container::BitstreamKind;
-use jxl_container::BoxRefusal;
-use jxl_container::parse::ParseEvent;
+use jxl_events::ParseEvent;
+use jxl_headers::BoxRefusal;
+use jxl_record::BitstreamKind;
 ghost use mathlib.Core.Path.{_≡_};
 ghost use mathlib.Core.List.{[], _∷_, _++_};
 ghost use Prim.Native.Nat.{_+_, _≤_};

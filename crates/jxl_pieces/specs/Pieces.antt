@@ -7,10 +7,10 @@ use lib.Ieee.{binary32, ofBits}
 use Rattle.jxl_headers.specs.Refusals.{refusal}
 use Rattle.jxl_headers.specs.Signature.{signatureOf, containerSig}
 use Rattle.jxl_headers.specs.Header.{headerOf, extended}
-use Rattle.jxl_container.specs.declared.BitstreamKind.the-variants as K
-use Rattle.jxl_container.specs.declared.parse.ParseEvent.{ParseEvent}
-use Rattle.jxl_container.specs.declared.parse.ParseEvent.the-variants as E
-use Rattle.jxl_files.specs.Grammar.{Listing, Stop, want, refused, file, boxes}
+use Rattle.jxl_record.specs.declared.BitstreamKind.the-variants as K
+use Rattle.jxl_events.specs.declared.ParseEvent.{ParseEvent}
+use Rattle.jxl_events.specs.declared.ParseEvent.the-variants as E
+use Rattle.jxl_grammar.specs.Grammar.{Listing, Stop, want, refused, file, boxes}
 use Rattle.jxl_bits.specs.Answer.{gives}
 use Rattle.jxl_bits.specs.Bits.{number, bits}
 use Rattle.jxl_bits.specs.Readers.{begin, part}

@@ -1,7 +1,7 @@
 // Lists a stream: reads it in blocks of at most 64 KiB, and writes the lines of each turn at once, joined across reads.
 use jxl_container::ContainerParser;
-use jxl_files::Joiner;
-use jxl_files::MaybeEvent;
+use jxl_joiner::Joiner;
+use jxl_joiner::MaybeEvent;
 use jxl_listing::Line;
 use jxl_listing::Put;
 use jxl_listing::StopWord;

@@ -4,15 +4,15 @@ use mathlib.Core.List.{List, [], _∷_, _++_, append-assoc}
 use Prim.Native.Nat.{ℕ, _+_}
 use native.Mathlib.Omega.{arith}
 use lib.ListN.{drop}
-use Rattle.jxl_container.specs.Step.{shifted}
-use Rattle.jxl_container.specs.declared.ContainerParser.{ContainerParser}
-use Rattle.jxl_container.specs.declared.parse.ParseEvent.{ParseEvent}
-use Rattle.jxl_files.specs.Feeding.{Seen, events, followed, placed, stops}
-use Rattle.jxl_files.specs.Feeding as Feeding
-use Rattle.jxl_files.specs.Grammar as G
-use Rattle.jxl_files.specs.Joiner.{adding, handed, run}
-use Rattle.jxl_files.specs.declared.MaybeEvent.{MaybeEvent}
-use Rattle.jxl_files.proofs.Taking.{take-is}
+use Rattle.jxl_events.specs.Event.{shifted}
+use Rattle.jxl_record.specs.declared.ContainerParser.{ContainerParser}
+use Rattle.jxl_events.specs.declared.ParseEvent.{ParseEvent}
+use Rattle.jxl_grammar.specs.Feeding.{Seen, events, followed, placed, stops}
+use Rattle.jxl_grammar.specs.Feeding as Feeding
+use Rattle.jxl_grammar.specs.Grammar as G
+use Rattle.jxl_joiner.specs.Joiner.{adding, handed, run}
+use Rattle.jxl_joiner.specs.declared.MaybeEvent.{MaybeEvent}
+use Rattle.jxl_grammar.proofs.Taking.{take-is}
 use Rattle.jxl_listing.specs.Lines.{text}
 use Rattle.jxl_listing.specs.declared.Line.the-variants as L
 use Rattle.jxl_listing.specs.declared.StopWord.{StopWord}

@@ -9,16 +9,16 @@ use lib.Dec.{ltb}
 use lib.ListN.{length, drop, length-append, length-drop}
 use borrow.Author.Tests.{ltb-true}
 use Rattle.jxl_headers.specs.Bytes.{if, and}
-use Rattle.jxl_container.specs.Laws.{Inside}
-use Rattle.jxl_container.specs.Step.{shifted}
-use Rattle.jxl_container.specs.declared.ContainerParser.{ContainerParser}
-use Rattle.jxl_container.specs.declared.parse.ParseEvent.{ParseEvent}
-use Rattle.jxl_container.specs.declared.parse.ParseEvent.the-variants as E
-use Rattle.jxl_container.proofs.Laws.{every-step}
-use Rattle.jxl_files.specs.Joiner.{added, adding, extends, handed}
-use Rattle.jxl_files.specs.Joined.{joins, lengthOf, longer}
-use Rattle.jxl_files.specs.declared.MaybeEvent.{MaybeEvent}
-use Rattle.jxl_files.specs.declared.MaybeEvent.the-variants.{None, Some}
+use Rattle.jxl_grammar.specs.Laws.{Inside}
+use Rattle.jxl_events.specs.Event.{shifted, lengthOf}
+use Rattle.jxl_record.specs.declared.ContainerParser.{ContainerParser}
+use Rattle.jxl_events.specs.declared.ParseEvent.{ParseEvent}
+use Rattle.jxl_events.specs.declared.ParseEvent.the-variants as E
+use Rattle.jxl_grammar.proofs.Laws.{every-step}
+use Rattle.jxl_joiner.specs.Joiner.{added, adding, extends, handed}
+use Rattle.jxl_joiner.specs.Joined.{joins, longer}
+use Rattle.jxl_joiner.specs.declared.MaybeEvent.{MaybeEvent}
+use Rattle.jxl_joiner.specs.declared.MaybeEvent.the-variants.{None, Some}
 use Rattle.jxl_listing.specs.Lines.{text}
 use Rattle.jxl_listing.specs.declared.Line.the-variants as L
 use Rattle.jxl_listing.proofs.Numbers.{decimal-most, type-length}

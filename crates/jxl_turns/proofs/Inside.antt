@@ -13,23 +13,23 @@ use Rattle.jxl_headers.specs.Bytes.{and}
 use Rattle.jxl_headers.specs.Reach.{under, less}
 use Rattle.jxl_headers.specs.declared.BytesLeft.{BytesLeft}
 use Rattle.jxl_headers.specs.declared.BytesLeft.the-variants.{ToEnd, Bytes}
-use Rattle.jxl_container.specs.Record.{at, overIndex}
-use Rattle.jxl_container.specs.Step.{Told, shows, wants, shifted, inCode, codePart, stepOf}
-use Rattle.jxl_container.proofs.Step.{code-shows, step-empty}
-use Rattle.jxl_container.specs.declared.BitstreamKind.{BitstreamKind}
-use Rattle.jxl_container.specs.declared.JxlpIndexState.{JxlpIndexState}
-use Rattle.jxl_container.specs.declared.DetectState.{DetectState}
-use Rattle.jxl_container.specs.declared.DetectState.the-variants as D
-use Rattle.jxl_container.specs.declared.ContainerParser.{ContainerParser}
-use Rattle.jxl_container.specs.declared.parse.ParseEvent.{ParseEvent}
-use Rattle.jxl_container.specs.declared.parse.ParseEvent.the-variants as E
-use Rattle.jxl_files.specs.Joiner.{added, adding, handed}
-use Rattle.jxl_files.specs.declared.Added.{Added}
-use Rattle.jxl_files.specs.declared.MaybeEvent.{MaybeEvent}
-use Rattle.jxl_files.specs.declared.MaybeEvent.the-variants.{None, Some}
-use Rattle.jxl_files.specs.declared.Joiner.{Joiner}
-use Rattle.jxl_files.proofs.Cut.{step-code}
-use Rattle.jxl_files.proofs.Never.{never}
+use Rattle.jxl_record.specs.Record.{at, overIndex}
+use Rattle.jxl_grammar.specs.Step.{Told, shows, wants, inCode, codePart, stepOf}
+use Rattle.jxl_grammar.proofs.Step.{code-shows, step-empty}
+use Rattle.jxl_record.specs.declared.BitstreamKind.{BitstreamKind}
+use Rattle.jxl_record.specs.declared.JxlpIndexState.{JxlpIndexState}
+use Rattle.jxl_record.specs.declared.DetectState.{DetectState}
+use Rattle.jxl_record.specs.declared.DetectState.the-variants as D
+use Rattle.jxl_record.specs.declared.ContainerParser.{ContainerParser}
+use Rattle.jxl_events.specs.declared.ParseEvent.{ParseEvent}
+use Rattle.jxl_events.specs.declared.ParseEvent.the-variants as E
+use Rattle.jxl_joiner.specs.Joiner.{added, adding, handed}
+use Rattle.jxl_joiner.specs.declared.Added.{Added}
+use Rattle.jxl_joiner.specs.declared.MaybeEvent.{MaybeEvent}
+use Rattle.jxl_joiner.specs.declared.MaybeEvent.the-variants.{None, Some}
+use Rattle.jxl_joiner.specs.declared.Joiner.{Joiner}
+use Rattle.jxl_grammar.proofs.Cut.{step-code}
+use Rattle.jxl_base.proofs.Never.{never}
 use Rattle.jxl_listing.specs.declared.StopWord.the-variants as S
 use Rattle.jxl_turns.specs.Listed.{texts}
 use Rattle.jxl_turns.specs.Turned as Spec

@@ -9,8 +9,7 @@ use lib.Dec.{leb}
 use lib.ListN.{length, take, drop, length-append, length-drop, take-append-drop}
 use lib.Seq.{take-add, take-at, drop-drop, drop-append-add, take-append-seam, drop-append-seam, drop-at, length-take-le, take-length}
 use borrow.Author.Tests.{le-leb, lt-leb, leb-true, leb-false}
-use Rattle.jxl_listing.specs.Putting.{Outcome, leaves, pasted, putOf}
-use Rattle.jxl_listing.specs.declared.Put.{Put}
+use Rattle.jxl_listing.specs.Putting.{leaves, pasted, putOf}
 use Rattle.jxl_turns.specs.Listed.{listOf}
 use Rattle.jxl_listing.specs.declared.Put.the-variants.{Written, NoRoom}
 

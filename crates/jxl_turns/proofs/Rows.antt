@@ -6,14 +6,15 @@ use Prim.Native.Nat.{ℕ, suc, _+_, _-_, _^_, _<_, _≤_}
 use native.Mathlib.Omega.{arith}
 use lib.ListN.{length, drop, length-append, length-drop}
 use lib.Seq.{drop-drop}
-use Rattle.jxl_container.specs.Step.{shifted, stepOf}
-use Rattle.jxl_container.specs.declared.ContainerParser.{ContainerParser}
-use Rattle.jxl_container.specs.declared.parse.ParseEvent.{ParseEvent}
-use Rattle.jxl_files.specs.Feeding.{Seen, Shown, Takes, events, eventsIn}
-use Rattle.jxl_files.specs.Feeding as Feeding
-use Rattle.jxl_files.specs.Theorems.{All}
-use Rattle.jxl_files.specs.declared.MaybeEvent.{MaybeEvent}
-use Rattle.jxl_files.proofs.Taking.{takes, take-is}
+use Rattle.jxl_events.specs.Event.{shifted}
+use Rattle.jxl_grammar.specs.Step.{stepOf}
+use Rattle.jxl_record.specs.declared.ContainerParser.{ContainerParser}
+use Rattle.jxl_events.specs.declared.ParseEvent.{ParseEvent}
+use Rattle.jxl_grammar.specs.Feeding.{Seen, Shown, Takes, events, eventsIn}
+use Rattle.jxl_grammar.specs.Feeding as Feeding
+use Rattle.jxl_grammar.specs.Theorems.{All}
+use Rattle.jxl_joiner.specs.declared.MaybeEvent.{MaybeEvent}
+use Rattle.jxl_grammar.proofs.Taking.{takes, take-is}
 use Rattle.jxl_listing.specs.Lines.{printed}
 use Rattle.jxl_listing.specs.declared.StopWord.{StopWord}
 use Rattle.jxl_listing.specs.declared.StopWord.the-variants as S

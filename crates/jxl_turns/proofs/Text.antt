@@ -5,28 +5,26 @@ use Prim.Native.Nat.{ℕ, suc, _+_, _-_, _<_, _≤_, min}
 use native.Mathlib.Omega.{arith}
 use lib.ListN.{length, take, drop, length-append, length-drop}
 use lib.Seq.{take-all, drop-drop}
-use Rattle.jxl_container.specs.Laws.{Inside}
+use Rattle.jxl_grammar.specs.Laws.{Inside}
 use Rattle.jxl_headers.specs.Refusals.{Why}
-use Rattle.jxl_container.specs.Record.{fresh}
-use Rattle.jxl_container.specs.Step.{Told, shows, wants, refuses, shifted, stepOf, told}
-use Rattle.jxl_container.proofs.Laws.{every-step}
-use Rattle.jxl_container.specs.declared.ContainerParser.{ContainerParser}
-use Rattle.jxl_container.specs.declared.parse.ParseEvent.{ParseEvent}
-use Rattle.jxl_container.specs.declared.parse.ParseEvent.the-variants as E
-use Rattle.jxl_container.specs.declared.parse.Step.{Step}
-use Rattle.jxl_files.specs.Feeding.{Seen, events, followed, placed, stops}
-use Rattle.jxl_files.specs.Feeding as Feeding
-use Rattle.jxl_files.specs.Grammar.{file}
-use Rattle.jxl_files.specs.Theorems.{listing}
-use Rattle.jxl_files.specs.Feeding.{Takes, more, waits, ends}
-use Rattle.jxl_files.proofs.Taking.{takes, take-is}
-use Rattle.jxl_files.proofs.Theorems.{every-file, whole-feed}
+use Rattle.jxl_record.specs.Record.{fresh}
+use Rattle.jxl_grammar.specs.Step.{Told, shows, wants, refuses, stepOf}
+use Rattle.jxl_events.specs.Event.{shifted}
+use Rattle.jxl_grammar.proofs.Laws.{every-step}
+use Rattle.jxl_record.specs.declared.ContainerParser.{ContainerParser}
+use Rattle.jxl_events.specs.declared.ParseEvent.{ParseEvent}
+use Rattle.jxl_events.specs.declared.ParseEvent.the-variants as E
+use Rattle.jxl_grammar.specs.Feeding.{Seen, events, followed, placed, more, waits, ends}
+use Rattle.jxl_grammar.specs.Feeding as Feeding
+use Rattle.jxl_grammar.specs.Grammar.{file}
+use Rattle.jxl_grammar.specs.Theorems.{listing}
+use Rattle.jxl_grammar.proofs.Taking.{takes, take-is}
+use Rattle.jxl_grammar.proofs.Theorems.{every-file, whole-feed}
 use Rattle.jxl_listing.specs.Lines.{printed, text}
 use Rattle.jxl_listing.specs.declared.Line.the-variants as L
 use Rattle.jxl_listing.specs.declared.StopWord.{StopWord}
 use Rattle.jxl_listing.specs.declared.StopWord.the-variants as S
-use Rattle.jxl_turns.specs.Listed.{stopOf, texts, listingText, fileText, nextIn, nextOf, placeOf}
-use Rattle.jxl_turns.specs.declared.AfterStep.{AfterStep}
+use Rattle.jxl_turns.specs.Listed.{texts, listingText, fileText, nextIn, nextOf, placeOf}
 use Rattle.jxl_turns.specs.declared.AfterStep.the-variants as N
 
 -- a payload's place lies inside the input too

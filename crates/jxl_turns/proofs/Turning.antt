@@ -7,25 +7,26 @@ use lib.Dec.{leb, ltb}
 use lib.ListN.{length, take, drop}
 use lib.Seq.{drop-drop, length-take-le}
 use borrow.Author.Tests.{le-leb, lt-leb, lt-ltb, le-ltb}
-use Rattle.jxl_container.specs.Step.{Told, shows, wants, refuses, shifted, stepOf}
-use Rattle.jxl_container.specs.declared.ContainerParser.{ContainerParser}
-use Rattle.jxl_container.specs.declared.parse.ParseEvent.{ParseEvent}
-use Rattle.jxl_container.specs.declared.parse.ParseEvent.the-variants as E
-use Rattle.jxl_files.specs.Joiner.{adding, handed}
-use Rattle.jxl_files.specs.declared.Added.{Added}
-use Rattle.jxl_files.specs.declared.MaybeEvent.{MaybeEvent}
-use Rattle.jxl_files.specs.declared.Joiner.{Joiner}
+use Rattle.jxl_grammar.specs.Step.{Told, shows, stepOf}
+use Rattle.jxl_events.specs.Event.{shifted}
+use Rattle.jxl_record.specs.declared.ContainerParser.{ContainerParser}
+use Rattle.jxl_events.specs.declared.ParseEvent.{ParseEvent}
+use Rattle.jxl_events.specs.declared.ParseEvent.the-variants as E
+use Rattle.jxl_joiner.specs.Joiner.{adding, handed}
+use Rattle.jxl_joiner.specs.declared.Added.{Added}
+use Rattle.jxl_joiner.specs.declared.MaybeEvent.{MaybeEvent}
+use Rattle.jxl_joiner.specs.declared.Joiner.{Joiner}
 use Rattle.jxl_listing.specs.Putting.{Outcome, leaves, pasted, putOf}
 use Rattle.jxl_listing.specs.declared.Put.the-variants.{Written, NoRoom}
 use Rattle.jxl_listing.specs.declared.StopWord.{StopWord}
-use Rattle.jxl_turns.specs.Listed.{texts, nextIn, nextOf, placeOf}
+use Rattle.jxl_turns.specs.Listed.{texts, nextIn, nextOf}
 use Rattle.jxl_turns.specs.Turned as Spec
 use Rattle.jxl_turns.specs.Turned.{Turned, over, behind, turnBy, turning, turnFrom, turnOf}
 use Rattle.jxl_turns.specs.declared.TurnEnd.{TurnEnd}
 use Rattle.jxl_turns.specs.declared.TurnEnd.the-variants as TurnEnd
 use Rattle.jxl_turns.specs.declared.AfterTurn.{AfterTurn}
 use Rattle.jxl_turns.specs.declared.AfterStep.the-variants as N
-use Rattle.jxl_turns.proofs.Text.{count, following-shown, shown-fits}
+use Rattle.jxl_turns.proofs.Text.{following-shown}
 use Rattle.jxl_turns.proofs.Paste.{front-put, put-was, put-was-not, take-pasted, drop-pasted, length-pasted}
 
 -- the line of the event that a joiner hands back for the next one

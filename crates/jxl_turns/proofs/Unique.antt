@@ -3,8 +3,8 @@ use mathlib.Core.Path.{_≡_, sym, ap, _∙_}
 use mathlib.Core.List.{List}
 use Prim.Native.Nat.{ℕ}
 use lib.ListN.{length}
-use Rattle.jxl_container.specs.declared.ContainerParser.{ContainerParser}
-use Rattle.jxl_files.specs.declared.MaybeEvent.{MaybeEvent}
+use Rattle.jxl_record.specs.declared.ContainerParser.{ContainerParser}
+use Rattle.jxl_joiner.specs.declared.MaybeEvent.{MaybeEvent}
 use Rattle.jxl_turns.specs.Theorems.{OneListing, OneTurn}
 use Rattle.jxl_turns.specs.Turned.{Told}
 use Rattle.jxl_turns.specs.declared.AfterTurn.{AfterTurn}

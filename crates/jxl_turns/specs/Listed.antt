@@ -4,15 +4,15 @@ use Prim.Native.Nat.{ℕ, _+_, _-_, _^_, min}
 use lib.Dec.{leb}
 use lib.ListN.{length}
 use Rattle.jxl_headers.specs.Bytes.{if}
-use Rattle.jxl_container.specs.Step.{Told, shows, wants, refuses, shifted, stepOf}
-use Rattle.jxl_container.specs.declared.ContainerParser.{ContainerParser}
-use Rattle.jxl_container.specs.declared.parse.ParseEvent.{ParseEvent}
-use Rattle.jxl_container.specs.declared.parse.ParseEvent.the-variants as E
-use Rattle.jxl_files.specs.Grammar.{Listing, file}
-use Rattle.jxl_files.specs.Grammar as G
+use Rattle.jxl_grammar.specs.Step.{Told, shows, wants, refuses, stepOf}
+use Rattle.jxl_events.specs.Event.{shifted}
+use Rattle.jxl_record.specs.declared.ContainerParser.{ContainerParser}
+use Rattle.jxl_events.specs.declared.ParseEvent.{ParseEvent}
+use Rattle.jxl_events.specs.declared.ParseEvent.the-variants as E
+use Rattle.jxl_grammar.specs.Grammar.{Listing, file}
+use Rattle.jxl_grammar.specs.Grammar as G
 use Rattle.jxl_listing.specs.Lines.{printed, text}
 use Rattle.jxl_listing.specs.Putting.{Outcome, leaves, pasted}
-use Rattle.jxl_listing.specs.declared.Line.{Line}
 use Rattle.jxl_listing.specs.declared.Line.the-variants as L
 use Rattle.jxl_listing.specs.declared.StopWord.{StopWord}
 use Rattle.jxl_listing.specs.declared.StopWord.the-variants as S

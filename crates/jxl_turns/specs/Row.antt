@@ -3,8 +3,8 @@
 use mathlib.Core.List.{List, [], _∷_, _++_}
 use Prim.Native.Nat.{ℕ, _+_}
 use lib.ListN.{drop}
-use Rattle.jxl_container.specs.declared.ContainerParser.{ContainerParser}
-use Rattle.jxl_files.specs.declared.MaybeEvent.{MaybeEvent}
+use Rattle.jxl_record.specs.declared.ContainerParser.{ContainerParser}
+use Rattle.jxl_joiner.specs.declared.MaybeEvent.{MaybeEvent}
 use Rattle.jxl_turns.specs.Turned.{Turned, over, turnOf}
 use Rattle.jxl_turns.specs.declared.TurnEnd.{TurnEnd}
 use Rattle.jxl_turns.specs.declared.TurnEnd.the-variants as TurnEnd

@@ -4,16 +4,15 @@ use mathlib.Core.List.{List, [], _∷_, _++_}
 use Prim.Native.Nat.{ℕ, _+_, _^_, _<_, _≤_}
 use lib.ListN.{length, drop}
 use Rattle.jxl_base.specs.OneAnswer.{OneAnswerAndBuffer}
-use Rattle.jxl_container.specs.Step.{shifted}
-use Rattle.jxl_container.specs.declared.ContainerParser.{ContainerParser}
-use Rattle.jxl_container.specs.declared.parse.ParseEvent.{ParseEvent}
-use Rattle.jxl_files.specs.Feeding.{Seen, events}
-use Rattle.jxl_files.specs.Feeding as Feeding
-use Rattle.jxl_files.specs.Joined.{lengthOf}
-use Rattle.jxl_files.specs.Joiner.{handed, run}
-use Rattle.jxl_files.specs.Theorems.{All}
-use Rattle.jxl_files.specs.declared.MaybeEvent.{MaybeEvent}
-use Rattle.jxl_files.specs.declared.MaybeEvent.the-variants.{None, Some}
+use Rattle.jxl_events.specs.Event.{shifted, lengthOf}
+use Rattle.jxl_record.specs.declared.ContainerParser.{ContainerParser}
+use Rattle.jxl_events.specs.declared.ParseEvent.{ParseEvent}
+use Rattle.jxl_grammar.specs.Feeding.{Seen, events}
+use Rattle.jxl_grammar.specs.Feeding as Feeding
+use Rattle.jxl_joiner.specs.Joiner.{handed, run}
+use Rattle.jxl_grammar.specs.Theorems.{All}
+use Rattle.jxl_joiner.specs.declared.MaybeEvent.{MaybeEvent}
+use Rattle.jxl_joiner.specs.declared.MaybeEvent.the-variants.{None, Some}
 use Rattle.jxl_listing.specs.Putting.{leaves}
 use Rattle.jxl_listing.specs.declared.StopWord.{StopWord}
 use Rattle.jxl_turns.specs.Listed.{stopOf, texts, placeOf, listOf}

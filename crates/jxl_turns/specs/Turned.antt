@@ -5,14 +5,12 @@ use mathlib.Core.List.{List, [], _++_}
 use Prim.Native.Nat.{ℕ, zero, suc, _+_, _-_, _^_}
 use lib.Dec.{leb, ltb}
 use lib.ListN.{length, drop}
-use Rattle.jxl_container.specs.Step.{shifted}
-use Rattle.jxl_container.specs.declared.ContainerParser.{ContainerParser}
-use Rattle.jxl_container.specs.declared.parse.ParseEvent.{ParseEvent}
-use Rattle.jxl_files.specs.Feeding as Feeding
-use Rattle.jxl_files.specs.Joiner.{adding, handed}
-use Rattle.jxl_files.specs.declared.MaybeEvent.{MaybeEvent}
+use Rattle.jxl_events.specs.Event.{shifted}
+use Rattle.jxl_record.specs.declared.ContainerParser.{ContainerParser}
+use Rattle.jxl_grammar.specs.Feeding as Feeding
+use Rattle.jxl_joiner.specs.Joiner.{adding, handed}
+use Rattle.jxl_joiner.specs.declared.MaybeEvent.{MaybeEvent}
 use Rattle.jxl_listing.specs.Putting.{pasted}
-use Rattle.jxl_listing.specs.declared.StopWord.{StopWord}
 use Rattle.jxl_listing.specs.declared.StopWord.the-variants as S
 use Rattle.jxl_turns.specs.Listed.{texts, nextOf}
 use Rattle.jxl_turns.specs.declared.TurnEnd.{TurnEnd}

@@ -2,10 +2,10 @@
 use jxl_container::ContainerParser;
 use jxl_container::DetectState;
 use jxl_container::JxlpIndexState;
-use jxl_container::parse::ParseEvent;
-use jxl_container::parse::Step;
-use jxl_files::Joiner;
-use jxl_files::MaybeEvent;
+use jxl_container::ParseEvent;
+use jxl_container::StepResult;
+use jxl_joiner::Joiner;
+use jxl_joiner::MaybeEvent;
 use jxl_listing::Line;
 use jxl_listing::Put;
 use jxl_listing::StopWord;
@@ -14,15 +14,14 @@ ghost use Prim.Native.Nat.{_+_, _-_, _^_, _≤_, _<_, min};
 ghost use lib.Dec.{eqb, ltb};
 ghost use lib.ListN.{length, drop};
 ghost use Rattle.jxl_headers.specs.Bytes.{and};
-ghost use Rattle.jxl_container.specs.Record.{overIndex};
-ghost use Rattle.jxl_container.specs.Step.{shifted};
+ghost use Rattle.jxl_events.specs.Event.{shifted};
 ghost use Rattle.jxl_listing.specs.Lines.{text};
 ghost use Rattle.jxl_listing.specs.Putting.{leaves, pasted, putOf};
 ghost use Rattle.jxl_turns.specs.Listed.{fileText, listOf, nextOf, placeOf, texts};
 ghost use Rattle.jxl_turns.specs.Turned.{Told, Leads, turnFrom, turnOf};
-ghost use Rattle.jxl_files.specs.Joiner.{handed};
-ghost use Rattle.jxl_files.specs.declared.MaybeEvent.the-variants.{Some};
-ghost use Rattle.jxl_container.specs.declared.parse.ParseEvent.the-variants.{Codestream};
+ghost use Rattle.jxl_joiner.specs.Joiner.{handed};
+ghost use Rattle.jxl_joiner.specs.declared.MaybeEvent.the-variants.{Some};
+ghost use Rattle.jxl_events.specs.declared.ParseEvent.the-variants.{Codestream};
 
 // What comes next: an event with its place in the file, or the stop; and the record and the place then.
 pub enum AfterStep {
@@ -59,8 +58,8 @@ fn next(parser: ContainerParser, file: &[u8], at: usize) -> AfterStep
     requires { ⌜ at ≤ length (now file) ⌝ }
     ensures { λ r. ⌜ r ≡ nextOf parser at (drop at (now (file .entry))) ⌝ }
 {
-    match parser.step(&file[at..]) {
-        Step::Shown {
+    match jxl_container::step(parser, &file[at..]) {
+        StepResult::Shown {
             event,
             next,
             consumed,
@@ -69,12 +68,12 @@ fn next(parser: ContainerParser, file: &[u8], at: usize) -> AfterStep
             parser: next,
             at: at + consumed,
         },
-        Step::Want { next, consumed } => AfterStep::Stopped {
+        StepResult::Want { next, consumed } => AfterStep::Stopped {
             stop: StopWord::Want,
             parser: next,
             at: at + consumed,
         },
-        Step::Refused {
+        StepResult::Refused {
             refusal,
             next,
             consumed,
@@ -237,8 +236,8 @@ fn turn_from(start: AfterTurn, base: usize, input: &[u8], out: &mut [u8]) -> Aft
         let p = t.parser;
         let j = t.joiner;
         let k = t.consumed;
-        match p.step(&input[k..]) {
-            Step::Shown {
+        match jxl_container::step(p, &input[k..]) {
+            StepResult::Shown {
                 next,
                 consumed,
                 event,
@@ -251,7 +250,7 @@ fn turn_from(start: AfterTurn, base: usize, input: &[u8], out: &mut [u8]) -> Aft
                     Put::NoRoom(_) => return t,
                 }
             }
-            Step::Want { next, consumed } => {
+            StepResult::Want { next, consumed } => {
                 return after(
                     next,
                     j,
@@ -260,7 +259,7 @@ fn turn_from(start: AfterTurn, base: usize, input: &[u8], out: &mut [u8]) -> Aft
                     TurnEnd::Stopped(StopWord::Want),
                 );
             }
-            Step::Refused {
+            StepResult::Refused {
                 next,
                 consumed,
                 refusal,
@@ -307,18 +306,6 @@ enum Way {
     Long,
 }
 
-// Whether the current `jxlp` index is above 2^31 - 1: no file leads there, and the parser refuses.
-fn over_index(jxlp: JxlpIndexState) -> bool
-    ensures { λ r. ⌜ r ≡ overIndex jxlp ⌝ }
-{
-    match jxlp {
-        JxlpIndexState::Jxlp(i) => 0x8000_0000 <= i,
-        JxlpIndexState::Initial => false,
-        JxlpIndexState::SingleJxlc => false,
-        JxlpIndexState::JxlpFinished => false,
-    }
-}
-
 // Whether `len` bytes at `at` end at `base`, and `n` bytes more fit.
 fn reaches(at: usize, len: usize, base: usize, n: usize) -> bool
     ensures { λ r. ⌜ r ≡ and (eqb (at + len) base) (ltb (len + n) (2 ^ 64)) ⌝ }
@@ -349,7 +336,7 @@ fn way_behind(parser: ContainerParser, at: usize, len: usize, n: usize) -> Way
             if pending_no_more_aux_box {
                 return Way::Long;
             }
-            if over_index(jxlp) {
+            if jxlp.over_index() {
                 return Way::Long;
             }
             let then = left.less(n as u64);

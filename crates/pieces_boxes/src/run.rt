@@ -1,7 +1,7 @@
 // A piece run step by step, up to WANT or a refusal.
 use crate::show;
 use jxl_container::ContainerParser;
-use jxl_container::parse::Step;
+use jxl_container::StepResult;
 
 // The record, the bytes consumed so far, and whether the last step gave no event.
 struct Run {
@@ -22,8 +22,8 @@ fn rest(s: &[u8], at: usize) -> &[u8] {
 fn turn(run: Run, s: &[u8]) -> Run {
     let at = run.consumed;
     let parser = run.parser;
-    match parser.step(rest(s, at)) {
-        Step::Shown {
+    match jxl_container::step(parser, rest(s, at)) {
+        StepResult::Shown {
             event,
             next,
             consumed,
@@ -35,7 +35,7 @@ fn turn(run: Run, s: &[u8]) -> Run {
                 stopped: false,
             }
         }
-        Step::Want { next, consumed } => {
+        StepResult::Want { next, consumed } => {
             show::text(b" WANT");
             Run {
                 parser: next,
@@ -43,7 +43,7 @@ fn turn(run: Run, s: &[u8]) -> Run {
                 stopped: true,
             }
         }
-        Step::Refused {
+        StepResult::Refused {
             refusal,
             next,
             consumed,

@@ -3,7 +3,7 @@ use jxl_container::BitstreamKind;
 use jxl_container::BoxRefusal;
 use jxl_container::ContainerParser;
 use jxl_container::JxlpIndexState;
-use jxl_container::parse::ParseEvent;
+use jxl_container::ParseEvent;
 
 pub fn text(s: &[u8]) {
     io::write_all(1, s);

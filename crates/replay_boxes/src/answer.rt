@@ -1,7 +1,7 @@
 // What the steps show, in the words of the list, put one behind the other into a buffer.
 use jxl_container::BitstreamKind;
 use jxl_container::BoxRefusal;
-use jxl_container::parse::ParseEvent;
+use jxl_container::ParseEvent;
 
 // Puts the first letter of a token, behind a space unless it is the first token.
 pub fn start(out: &mut [u8], to: usize, letter: u8) -> usize {

@@ -2,8 +2,8 @@
 use crate::answer;
 use jxl_container::BitstreamKind;
 use jxl_container::ContainerParser;
-use jxl_container::parse::ParseEvent;
-use jxl_container::parse::Step;
+use jxl_container::ParseEvent;
+use jxl_container::StepResult;
 
 // The record, the bytes consumed, the kind that an event told, the place behind the answer so far, and how the last step ended.
 struct Feed {
@@ -36,7 +36,7 @@ fn is_at(file: &[u8], at: usize, len: usize, shown: &[u8]) -> bool {
 
 // Whether the payload that the event hands out is that part of the file, and empty where it shows none.
 fn is_payload(file: &[u8], base: usize, input: &[u8], event: ParseEvent) -> bool {
-    let shown = jxl_container::parse::payload(input, event);
+    let shown = jxl_container::payload(input, event);
     match event {
         ParseEvent::Codestream { at, len } => is_at(
             file,
@@ -97,8 +97,8 @@ fn turn(out: &mut [u8], file: &[u8], end: usize, feed: Feed) -> Feed {
     let told = feed.told;
     let parser = feed.parser;
     let input = part(file, base, end);
-    match parser.step(input) {
-        Step::Shown {
+    match jxl_container::step(parser, input) {
+        StepResult::Shown {
             event,
             next,
             consumed,
@@ -115,8 +115,8 @@ fn turn(out: &mut [u8], file: &[u8], end: usize, feed: Feed) -> Feed {
                 false,
             )
         }
-        Step::Want { next, consumed } => stepped(next, base, consumed, told, to, true, false),
-        Step::Refused {
+        StepResult::Want { next, consumed } => stepped(next, base, consumed, told, to, true, false),
+        StepResult::Refused {
             refusal,
             next,
             consumed,

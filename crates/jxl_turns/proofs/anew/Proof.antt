@@ -1,6 +1,6 @@
 use mathlib.Core.Path.{_≡_, sym, ap, _∙_}
-use Rattle.jxl_files.specs.declared.MaybeEvent.{MaybeEvent}
-use Rattle.jxl_files.specs.declared.MaybeEvent.the-variants.{None, Some}
+use Rattle.jxl_joiner.specs.declared.MaybeEvent.{MaybeEvent}
+use Rattle.jxl_joiner.specs.declared.MaybeEvent.the-variants.{Some}
 use borrow.Author.Needs.{needs}
 use Rattle.jxl_turns.proofs.anew.Statement.{statement}
 use Rattle.jxl_turns.proofs.anew.Tie as tie

@@ -6,10 +6,10 @@ use native.Mathlib.Omega.{arith}
 use types.Run.{OneOf}
 use denote.Enum.Declared.{tagOf}
 use borrow.Author.Needs.{needs}
-use Rattle.jxl_container.specs.Step.{shifted}
-use Rattle.jxl_container.specs.declared.parse.ParseEvent.{ParseEvent}
-use Rattle.jxl_container.proofs.parse.ParseEvent as Events
-use Rattle.jxl_container.specs.declared.parse.ParseEvent.the-variants as E
+use Rattle.jxl_events.specs.Event.{shifted}
+use Rattle.jxl_events.specs.declared.ParseEvent.{ParseEvent}
+use Rattle.jxl_events.proofs.ParseEvent as Events
+use Rattle.jxl_events.specs.declared.ParseEvent.the-variants as E
 use Rattle.jxl_turns.proofs.place.Statement.{statement}
 use Rattle.jxl_turns.proofs.place.Tie as tie
 

@@ -2,7 +2,7 @@ use mathlib.Core.Path.{_≡_, refl, sym, ap, _∙_}
 use native.Mathlib.Omega.{arith}
 use Prim.Native.Nat.{_+_}
 use borrow.Author.Tests.{eq-eqb, ne-eqb}
-use Rattle.jxl_files.proofs.Joining.{room-for}
+use Rattle.jxl_base.proofs.Room.{room-for}
 use borrow.Author.Needs.{needs}
 use Rattle.jxl_turns.proofs.reaches.Statement.{statement}
 use Rattle.jxl_turns.proofs.reaches.Tie as tie

@@ -3,7 +3,7 @@ use native.Mathlib.Omega.{arith}
 use lib.ListN.{length}
 use denote.Ref.{now}
 use borrow.Author.Needs.{needs}
-use Rattle.jxl_files.specs.declared.Joiner.{Joiner}
+use Rattle.jxl_joiner.specs.declared.Joiner.{Joiner}
 use Rattle.jxl_turns.specs.Turned.{Told, Turned, turnFrom, turnOf}
 use Rattle.jxl_turns.specs.declared.AfterTurn.{AfterTurn}
 use Rattle.jxl_turns.specs.declared.TurnEnd.the-variants as TurnEnd

@@ -6,8 +6,9 @@ use lib.ListN.{length, drop}
 use denote.Ref.{now}
 use borrow.Author.Needs.{needs}
 use Rattle.jxl_headers.specs.Refusals.{why}
-use Rattle.jxl_container.specs.Step.{shows, wants, refuses, stepOf, told}
-use Rattle.jxl_files.specs.Feeding.{Seen}
+use Rattle.jxl_grammar.specs.Step.{shows, wants, refuses, stepOf}
+use Rattle.jxl_container.specs.Told.{told}
+use Rattle.jxl_grammar.specs.Feeding.{Seen}
 use Rattle.jxl_listing.specs.Putting.{leaves}
 use Rattle.jxl_listing.specs.declared.Put.{Put}
 use Rattle.jxl_listing.specs.declared.StopWord.{StopWord}

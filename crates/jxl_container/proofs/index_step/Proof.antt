@@ -1,0 +1,70 @@
+use mathlib.Core.Path.{_≡_, sym, ap, _∙_}
+use Prim.Native.Nat.{ℕ, _%_}
+use denote.Ref.{now}
+use Rattle.jxl_grammar.proofs.Step.{far-index-wants, far-index-right, far-index-wrong}
+use borrow.Author.Needs.{needs}
+use Rattle.jxl_container.proofs.index_step.Statement.{statement}
+use Rattle.jxl_container.proofs.index_step.Tie as tie
+
+parser-at-requires : tie.Need-parser-at-requires
+parser-at-requires c κs = search needs
+
+sub-if1 : tie.Need-sub-if1
+sub-if1 c = search needs
+
+returns : tie.Need-returns
+returns c = rw (c .before .parser-at .ensures) (sym (far-index-wants (now (c .before .before .before .args .s)) _ _ _ (c .if1 .taken)))
+
+be32-at-requires : tie.Need-be32-at-requires
+be32-at-requires c κs = search needs
+
+row-requires : tie.Need-row-requires
+row-requires c κs = search needs
+
+less-requires : tie.Need-less-requires
+less-requires c κs = search needs
+
+to-end-requires : tie.Need-to-end-requires
+to-end-requires c κs = search needs
+
+add-code-step : tie.Need-add-code-step
+add-code-step c = search needs
+
+code-step-requires : tie.Need-code-step-requires
+code-step-requires c κs = search needs
+
+returns-2 : tie.Need-returns-2
+returns-2 c =
+    c .code-step .ensures
+    ∙ rw (c .before .before .before .row .ensures, c .before .before .less .ensures, c .before .to-end .ensures, c .before .before .before .before .before .be32-at .ensures)
+    (sym (far-index-right (now (c .before .before .before .before .before .before .before .before .before .args .s)) _ _ _ (c .before .before .before .before .before .before .if1 .left) (ap (λ (w : ℕ). w % 0x80000000) (sym (c .before .before .before .before .before .be32-at .ensures)) ∙ c .before .before .before .before .if2 .taken)))
+
+add-refuse : tie.Need-add-refuse
+add-refuse c = search needs
+
+refuse-requires : tie.Need-refuse-requires
+refuse-requires c κs = search needs
+
+returns-3 : tie.Need-returns-3
+returns-3 c =
+    c .refuse .ensures
+    ∙ rw (c .before .before .before .before .parser-at .ensures)
+    (sym (far-index-wrong (now (c .before .before .before .before .before .before .args .s)) _ _ _ (c .before .before .before .if1 .left) (rw (c .before .before .be32-at .ensures) at (c .before .if2 .left))))
+
+pub index-step-spec : {M : Type 1} → statement M
+index-step-spec =
+    tie.close
+    (tie.spec
+    parser-at-requires
+    sub-if1
+    returns
+    be32-at-requires
+    row-requires
+    less-requires
+    to-end-requires
+    add-code-step
+    code-step-requires
+    returns-2
+    add-refuse
+    refuse-requires
+    returns-3)

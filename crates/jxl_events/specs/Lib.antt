@@ -1,0 +1,3 @@
+pub mod Event
+pub mod Placing
+pub mod Theorems

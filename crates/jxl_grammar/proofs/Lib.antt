@@ -1,0 +1,14 @@
+pub mod Step
+pub mod Laws
+pub mod MoreInput
+pub mod Moving
+pub mod Cut
+pub mod Sound
+pub mod Lawful
+pub mod Taking
+pub mod Listed
+pub mod Theorems
+pub mod Caught
+pub mod Payloads
+pub mod Joining
+pub mod KindLaws

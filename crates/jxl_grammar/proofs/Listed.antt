@@ -1,0 +1,249 @@
+-- A step and the grammar: what a step tells of the bytes to come is what the grammar, entered in the middle, lists of them.
+use mathlib.Core.Path.{_≡_, refl, sym, ap, _∙_}
+use mathlib.Core.Bool.{Bool, true, false}
+use mathlib.Core.List.{List, [], _∷_}
+use Prim.Native.Nat.{ℕ, zero, suc, _+_, _-_, _%_, _<_, _≤_, min}
+use native.Mathlib.Nat.{add-assoc, add-zero}
+use native.Mathlib.Omega.{arith}
+use lib.Dec.{ltb, leb, eqb}
+use lib.ListN.{length, drop, length-drop}
+use lib.Seq.{drop-drop, drop-length}
+use borrow.Author.Tests.{ne-eqb, ltb-true, ltb-false, leb-true, leb-false, eqb-true, eqb-false}
+use Rattle.jxl_headers.specs.Bytes.{if, be32}
+use Rattle.jxl_headers.specs.Refusals.{why}
+use Rattle.jxl_headers.specs.Reach.{under, less, toEnd}
+use Rattle.jxl_record.specs.Record.{at, overIndex, impossibleIn, impossible, refusedIn, isRefused}
+use Rattle.jxl_headers.specs.Header.{Header, short, bad, box, headerOf}
+use Rattle.jxl_headers.specs.Signature.{signatureOf}
+use Rattle.jxl_headers.specs.Types.{jxlc, jxlp, brob, reserved}
+use Rattle.jxl_grammar.specs.Step as T
+use Rattle.jxl_grammar.specs.Step.{Told, shows, wants, refuses, ahead, codePart, codeStep, auxPart, indexStep, innerStep, jxlcStep, jxlpNext, boxStep, headerStep, signatureStep, awaited, stateStep, stepOf}
+use Rattle.jxl_events.specs.Event.{shifted}
+use Rattle.jxl_grammar.proofs.Step.{code-wants, code-pending, code-shows, index-wants, index-right, index-wrong, inner-wants, inner-reserved, inner-shows, box-jxlc, box-jxlp, box-brob, box-aux, step-empty, step-state}
+use Rattle.jxl_grammar.proofs.Laws.{refused-stays}
+use Rattle.jxl_events.proofs.Shifted.{shifted-shifted}
+use Rattle.jxl_headers.proofs.Header.{header-fits, header-short}
+use Rattle.jxl_headers.proofs.Signature.{is-short-bare}
+use Rattle.jxl_headers.specs.declared.consts.Signature.{Signature}
+use Rattle.jxl_headers.specs.declared.consts.Signature.the-variants as G
+use Rattle.jxl_record.specs.declared.BitstreamKind.{BitstreamKind}
+use Rattle.jxl_record.specs.declared.BitstreamKind.the-variants as K
+use Rattle.jxl_headers.specs.declared.BytesLeft.{BytesLeft}
+use Rattle.jxl_headers.specs.declared.BytesLeft.the-variants.{ToEnd, Bytes}
+use Rattle.jxl_record.specs.declared.JxlpIndexState.{JxlpIndexState}
+use Rattle.jxl_record.specs.declared.JxlpIndexState.the-variants.{Initial, SingleJxlc, Jxlp, JxlpFinished}
+use Rattle.jxl_record.specs.declared.DetectState.{DetectState}
+use Rattle.jxl_record.specs.declared.DetectState.the-variants as S
+use Rattle.jxl_record.specs.declared.ContainerParser.{ContainerParser}
+use Rattle.jxl_grammar.specs.Grammar.{want, refused, Listing, ends, then, Codestreams, none, single, upTo, whole, coded, code, closed, aux, row, indexed, inner, jxlcBox, jxlpBox, boxed, boxes, bare, signed}
+use Rattle.jxl_grammar.specs.Feeding.{Seen, Takes, more, waits}
+use Rattle.jxl_grammar.specs.Feeding as Feeding
+use Rattle.jxl_grammar.specs.Theorems.{listing}
+use Rattle.jxl_grammar.proofs.Cut.{row-right, or-false}
+use Rattle.jxl_base.proofs.Never.{never}
+
+-- the codestream boxes that a record knows of
+abbrev sofar : JxlpIndexState → Codestreams
+sofar Initial = none
+sofar SingleJxlc = single
+sofar (Jxlp i) = upTo i
+sofar JxlpFinished = whole
+
+-- the grammar, entered in the middle
+abbrev restIn : ℕ → DetectState → JxlpIndexState → ℕ → List ℕ → Listing
+restIn turns S.WaitingSignature j at s = signed (signatureOf s) turns (sofar j) at s
+restIn turns S.WaitingBoxHeader j at s = boxes turns (sofar j) at s
+restIn turns (S.WaitingJxlpIndex l) j at s = indexed (awaited j) l at s (boxes turns)
+restIn turns (S.WaitingInnerType l) j at s = inner l at s (boxes turns (sofar j))
+restIn turns (S.InAuxBox t l) j at s = aux t l at s (boxes turns (sofar j))
+restIn turns (S.InCodestream k l pending) j at s = code pending l at s (boxes turns (sofar j))
+restIn turns (S.Refused k r) j at s = ends (refused (why r)) at
+
+-- the listing of all the bytes that are still to come
+abbrev pub rest : ℕ → ContainerParser → ℕ → List ℕ → Listing
+rest turns p at s = restIn turns (p .state) (p .jxlp) at s
+
+-- a step on `s`, which stands at `a`, and the listing of `s`
+abbrev Lists : ℕ → List ℕ → Listing → Told → Type 0
+Lists a s l (shows e q c) = (m : ℕ) × (length s ≤ c + m) × (impossible q ≡ false) × (l ≡ then (shifted a e) (rest m q (a + c) (drop c s)))
+Lists a s l (wants q c) = l ≡ ends want (a + c)
+Lists a s l (refuses w q c) = l ≡ ends (refused w) (a + c)
+
+lists-ahead : (k a : ℕ) (s : List ℕ) (l : Listing) (t : Told) → k ≤ length s → Lists (a + k) (drop k s) l t → Lists a s l (ahead k t)
+lists-ahead k a s l (shows e q c) h (m, n, i, d) =
+    (m, omega (arith, length-drop k s), i, d ∙ rw (shifted-shifted a k e, add-assoc a k c, drop-drop c k s))
+lists-ahead k a s l (wants q c) h d = d ∙ rw (add-assoc a k c)
+lists-ahead k a s l (refuses n q c) h d = d ∙ rw (add-assoc a k c)
+
+-- inside a codestream
+module _ (j : JxlpIndexState) (o : overIndex j ≡ false) (k : BitstreamKind) (m a : ℕ) where
+  lists-part : (l : BytesLeft) (s : List ℕ) → 0 < length s → length s ≤ m → Lists a s (coded l a s (boxes m (sofar j))) (codePart j k l (length s))
+  lists-part ToEnd s p h = (m, omega arith, o, rw (add-zero a, drop-length s))
+  lists-part (Bytes n) s p h = go (leb n (length s)) refl
+    where
+      go : (t : Bool) → leb n (length s) ≡ t → Lists a s (coded (Bytes n) a s (boxes m (sofar j))) (codePart j k (Bytes n) (length s))
+      go true e = rw (coded, e) (m, omega arith, o, rw (add-zero a))
+      go false e = rw (coded, e) (m, omega arith, o, rw (add-zero a, drop-length s))
+
+  lists-code : (l : BytesLeft) (pending : Bool) (s : List ℕ) → length s ≤ m → Lists a s (code pending l a s (boxes m (sofar j))) (codeStep j k l pending s)
+  lists-code l pending [] h = rw (code-wants j k l [] pending (omega arith), add-zero a)
+  lists-code l true (x ∷ s) h = rw (code-pending j k l (x ∷ s) (omega arith)) (m, omega arith, o, rw (add-zero a))
+  lists-code l false (x ∷ s) h = rw (code-shows j k l (x ∷ s) (omega arith)) (lists-part l (x ∷ s) (omega arith) h)
+
+-- inside a side box, with a byte there
+module _ (j : JxlpIndexState) (o : overIndex j ≡ false) (t m a : ℕ) where
+  -- the end of a payload: the grammar closes the box, the record has nothing left of it
+  closing : (b : ℕ) (s : List ℕ) → closed t b s (boxes m (sofar j)) ≡ aux t (Bytes 0) b s (boxes m (sofar j))
+  closing b [] = refl
+  closing b (x ∷ s) = refl
+
+  side-sized : (n x : ℕ) (s : List ℕ) → (n ≡ 0 → ⊥) → length (x ∷ s) ≤ m → (u : Bool) → leb n (length (x ∷ s)) ≡ u
+      → Lists a (x ∷ s) (aux t (Bytes n) a (x ∷ s) (boxes m (sofar j))) (auxPart j t (Bytes n) (length (x ∷ s)))
+  side-sized n x s z h true e =
+      let all : min n (length (x ∷ s)) ≡ n = omega (arith, leb-true n (length (x ∷ s)) e) in
+      let over : n - n ≡ 0 = omega arith in
+      rw (aux, ne-eqb n 0 z, e, all, over) (m, omega arith, o, rw (add-zero a, closing (a + n) (drop n (x ∷ s))))
+  side-sized n x s z h false e =
+      let full : min n (length (x ∷ s)) ≡ length (x ∷ s) = omega (arith, leb-false n (length (x ∷ s)) e) in
+      rw (aux, ne-eqb n 0 z, e, full) (m, omega arith, o, rw (add-zero a, drop-length (x ∷ s)))
+
+  lists-side : (l : BytesLeft) (x : ℕ) (s : List ℕ) → length (x ∷ s) ≤ m → Lists a (x ∷ s) (aux t l a (x ∷ s) (boxes m (sofar j))) (auxPart j t l (length (x ∷ s)))
+  lists-side ToEnd x s h = (m, omega arith, o, rw (add-zero a, drop-length (x ∷ s)))
+  lists-side (Bytes n) x s h = go (eqb n 0) refl
+    where
+      go : (u : Bool) → eqb n 0 ≡ u → Lists a (x ∷ s) (aux t (Bytes n) a (x ∷ s) (boxes m (sofar j))) (auxPart j t (Bytes n) (length (x ∷ s)))
+      go true e = rw (aux, e) (m, omega arith, o, rw (add-zero a))
+      go false e = side-sized n x s (eqb-false n 0 e) h (leb n (length (x ∷ s))) refl
+
+row-is : (w i : ℕ) → sofar (T.row w i) ≡ row (leb 0x80000000 w) i
+row-is w i = go (leb 0x80000000 w)
+  where
+    go : (t : Bool) → sofar (if t JxlpFinished (Jxlp i)) ≡ row t i
+    go true = refl
+    go false = refl
+
+-- a `jxlp` index
+lists-index : (m a i : ℕ) (l : BytesLeft) (s : List ℕ) → length s ≤ m → Lists a s (indexed i l a s (boxes m)) (indexStep i l s)
+lists-index m a i l s h = go (ltb (length s) 4) refl (eqb (be32 s 0 % 0x80000000) i) refl
+  where
+    go : (t : Bool) → ltb (length s) 4 ≡ t → (u : Bool) → eqb (be32 s 0 % 0x80000000) i ≡ u → Lists a s (indexed i l a s (boxes m)) (indexStep i l s)
+    go true e u f = rw (index-wants i l s (ltb-true (length s) 4 e), indexed, e, add-zero a)
+    go false e true f =
+        let four : 4 ≤ length s = ltb-false (length s) 4 e in
+        let same : be32 s 0 % 0x80000000 ≡ i = eqb-true (be32 s 0 % 0x80000000) i f in
+        let right : overIndex (T.row (be32 s 0) i) ≡ false = row-right (be32 s 0) i (omega arith) in
+        rw (index-right i l s four same, indexed, e, f, ← row-is (be32 s 0) i)
+        (lists-ahead 4 a s _ (codeStep (T.row (be32 s 0) i) K.Container (less l 4) (toEnd l) (drop 4 s)) four
+        (lists-code (T.row (be32 s 0) i) right K.Container m (a + 4) (less l 4) (toEnd l) (drop 4 s) (omega (arith, length-drop 4 s))))
+    go false e false f = rw (index-wrong i l s (ltb-false (length s) 4 e) (eqb-false (be32 s 0 % 0x80000000) i f), indexed, e, f)
+
+-- a `brob` inner type
+lists-inner : (m a : ℕ) (j : JxlpIndexState) → overIndex j ≡ false → (l : BytesLeft) (s : List ℕ) → length s ≤ m → Lists a s (inner l a s (boxes m (sofar j))) (innerStep j l s)
+lists-inner m a j o l s h = go (ltb (length s) 4) refl (reserved (be32 s 0)) refl
+  where
+    go : (t : Bool) → ltb (length s) 4 ≡ t → (u : Bool) → reserved (be32 s 0) ≡ u → Lists a s (inner l a s (boxes m (sofar j))) (innerStep j l s)
+    go true e u f = rw (inner-wants j l s (ltb-true (length s) 4 e), inner, e, add-zero a)
+    go false e true f = rw (inner-reserved j l s (ltb-false (length s) 4 e) f, inner, e, f)
+    go false e false f = rw (inner-shows j l s (ltb-false (length s) 4 e) f, inner, e, f) (m, omega arith, o, refl)
+
+-- a box behind its header
+module _ (m a : ℕ) (j : JxlpIndexState) (o : overIndex j ≡ false) (l : BytesLeft) (s : List ℕ) (h : length s ≤ m) where
+  lists-jxlc : (i : JxlpIndexState) → Lists a s (jxlcBox (sofar i) l a s (boxes m)) (jxlcStep i l s)
+  lists-jxlc Initial = lists-code SingleJxlc refl K.Container m a l (toEnd l) s h
+  lists-jxlc SingleJxlc = rw (add-zero a)
+  lists-jxlc (Jxlp i) = rw (add-zero a)
+  lists-jxlc JxlpFinished = rw (add-zero a)
+
+  lists-next : (i : JxlpIndexState) → Lists a s (jxlpBox (sofar i) l a s (boxes m)) (jxlpNext i l s)
+  lists-next Initial = lists-index m a 0 l s h
+  lists-next SingleJxlc = rw (add-zero a)
+  lists-next (Jxlp i) = lists-index m a (i + 1) l s h
+  lists-next JxlpFinished = rw (add-zero a)
+
+  lists-box : (t : ℕ) → Lists a s (boxed (sofar j) t l a s (boxes m)) (boxStep j t l s)
+  lists-box t = go (eqb t jxlc) refl (eqb t jxlp) refl (eqb t brob) refl (under 4 l) refl
+    where
+      go : (u : Bool) → eqb t jxlc ≡ u → (v : Bool) → eqb t jxlp ≡ v → (w : Bool) → eqb t brob ≡ w → (x : Bool) → under 4 l ≡ x
+          → Lists a s (boxed (sofar j) t l a s (boxes m)) (boxStep j t l s)
+      go true e v f w g x k = rw (box-jxlc j t l s (eqb-true t jxlc e), boxed, e) (lists-jxlc j)
+      go false e true f w g true k = rw (box-jxlp j t l s (eqb-true t jxlp f), boxed, e, f, k, add-zero a)
+      go false e true f w g false k = rw (box-jxlp j t l s (eqb-true t jxlp f), boxed, e, f, k) (lists-next j)
+      go false e false f true g true k = rw (box-brob j t l s (eqb-true t brob g), boxed, e, f, g, k, add-zero a)
+      go false e false f true g false k = rw (box-brob j t l s (eqb-true t brob g), boxed, e, f, g, k) (lists-inner m a j o l s h)
+      go false e false f false g x k =
+          rw (box-aux j t l s (eqb-false t jxlc e) (eqb-false t jxlp f) (eqb-false t brob g), boxed, e, f, g) (m, omega arith, o, rw (add-zero a))
+
+-- a header
+lists-header : (m a : ℕ) (j : JxlpIndexState) → overIndex j ≡ false → (s : List ℕ) → length s ≤ m → (g : Header) → headerOf s ≡ g
+    → Lists a s (boxes m (sofar j) a s) (headerStep j s g)
+unfolding boxes
+lists-header zero a j o s h g e = rw (sym e ∙ header-short s (omega arith), add-zero a)
+lists-header (suc m) a j o s h short e = rw (e, add-zero a)
+lists-header (suc m) a j o s h (bad r) e = rw (e, add-zero a)
+lists-header (suc m) a j o s h (box t l n) e =
+    let fits = header-fits s e in
+    rw e (lists-ahead n a s _ (boxStep j t l (drop n s)) (fits .1) (lists-box m (a + n) j o l (drop n s) (omega (arith, length-drop n s)) t))
+
+-- the signature
+lists-bare : (m a : ℕ) (j : JxlpIndexState) → overIndex j ≡ false → (k : BitstreamKind) (s : List ℕ) → Lists a s (bare k a s) (T.bareStep k j)
+lists-bare m a j o k [] = (m, omega arith, o, rw (add-zero a))
+lists-bare m a j o k (x ∷ s) = (length (x ∷ s), omega arith, o, rw (add-zero a))
+
+lists-signature : (m a : ℕ) (j : JxlpIndexState) → overIndex j ≡ false → (s : List ℕ) → length s ≤ m → (g : Signature)
+    → Lists a s (signed g m (sofar j) a s) (signatureStep j g)
+lists-signature m a j o s h G.Bare = lists-bare m a j o K.BareCodestream s
+lists-signature m a j o s h G.Container = (m, omega arith, o, refl)
+lists-signature m a j o s h G.TooShort = rw (add-zero a)
+lists-signature m a j o s h G.Neither = lists-bare m a j o K.Invalid s
+
+-- every record that a file leads to, with a byte there
+lists-state : (m a : ℕ) (d : DetectState) (j : JxlpIndexState) → impossibleIn d j ≡ false → (x : ℕ) (s : List ℕ) → length (x ∷ s) ≤ m
+    → Lists a (x ∷ s) (restIn m d j a (x ∷ s)) (stateStep d j (x ∷ s))
+lists-state m a S.WaitingSignature j o x s h = lists-signature m a j o (x ∷ s) h (signatureOf (x ∷ s))
+lists-state m a S.WaitingBoxHeader j o x s h = lists-header m a j o (x ∷ s) h (headerOf (x ∷ s)) refl
+lists-state m a (S.WaitingJxlpIndex l) j o x s h = lists-index m a (awaited j) l (x ∷ s) h
+lists-state m a (S.WaitingInnerType l) j o x s h = lists-inner m a j (or-false (overIndex j) o .0) l (x ∷ s) h
+lists-state m a (S.InAuxBox t l) j o x s h = lists-side j o t m a l x s h
+lists-state m a (S.InCodestream k l pending) j o x s h = lists-code j o k m a l pending (x ∷ s) h
+lists-state m a (S.Refused k r) j o x s h = rw (add-zero a)
+
+boxes-none : (m a : ℕ) (c : Codestreams) → boxes m c a [] ≡ ends want a
+unfolding boxes
+boxes-none zero a c = refl
+boxes-none (suc m) a c = rw (header-short [] (omega arith))
+
+-- nothing to come lists nothing
+rest-none : (m a : ℕ) (d : DetectState) (j : JxlpIndexState) → refusedIn d ≡ false → restIn m d j a [] ≡ ends want a
+rest-none m a S.WaitingSignature j r = rw (is-short-bare [] refl refl refl)
+rest-none m a S.WaitingBoxHeader j r = boxes-none m a (sofar j)
+rest-none m a (S.WaitingJxlpIndex l) j r = refl
+rest-none m a (S.WaitingInnerType l) j r = refl
+rest-none m a (S.InAuxBox t l) j r = refl
+rest-none m a (S.InCodestream k l pending) j r = refl
+rest-none m a (S.Refused k n) j r = never (sym r)
+
+lists-refused : (m a : ℕ) (d : DetectState) (j : JxlpIndexState) → refusedIn d ≡ true → (s : List ℕ) → Lists a s (restIn m d j a s) (stepOf (at d j) s)
+lists-refused m a S.WaitingSignature j r s = never r
+lists-refused m a S.WaitingBoxHeader j r s = never r
+lists-refused m a (S.WaitingJxlpIndex l) j r s = never r
+lists-refused m a (S.WaitingInnerType l) j r s = never r
+lists-refused m a (S.InAuxBox t l) j r s = never r
+lists-refused m a (S.InCodestream k l pending) j r s = never r
+lists-refused m a (S.Refused k n) j r s = rw (refused-stays k n j s, add-zero a)
+
+lists-step : (m a : ℕ) (p : ContainerParser) (s : List ℕ) → impossible p ≡ false → length s ≤ m → Lists a s (rest m p a s) (stepOf p s)
+lists-step m a p [] i h = go (isRefused p) refl
+  where
+    go : (t : Bool) → isRefused p ≡ t → Lists a [] (rest m p a []) (stepOf p [])
+    go true r = lists-refused m a (p .state) (p .jxlp) r []
+    go false r = rw (step-empty p r) (rest-none m a (p .state) (p .jxlp) r ∙ rw (add-zero a))
+lists-step m a p (x ∷ s) i h = rw (step-state p (x ∷ s) (omega arith) i) (lists-state m a (p .state) (p .jxlp) i x s h)
+
+-- what is taken of an input is what the grammar lists of it
+pub listed : (m : ℕ) (p : ContainerParser) (a : ℕ) (s : List ℕ) {r : Seen} {u : List ℕ} → impossible p ≡ false → length s ≤ m → Takes p a s r u
+    → rest m p a s ≡ listing r
+listed m p a s i h (more {q = q} {c = c} {e = e} k t) =
+    let step = rw k at (lists-step m a p s i h) in
+    step .3 ∙ ap (then (shifted a e)) (listed (step .0) q (a + c) (drop c s) (step .2) (omega (arith, length-drop c s, step .1)) t)
+listed m p a s i h (waits k) = rw k at (lists-step m a p s i h)
+listed m p a s i h (Feeding.ends k) = rw k at (lists-step m a p s i h)

@@ -1,0 +1,6 @@
+pub mod Step
+pub mod Laws
+pub mod Grammar
+pub mod Parser
+pub mod Feeding
+pub mod Theorems

@@ -1,0 +1,3 @@
+pub mod Joined
+pub mod Joiner
+pub mod Theorems

@@ -1,0 +1,16 @@
+-- Two answers that meet a promise are equal.
+use Rattle.jxl_base.proofs.OneAnswer.{one-named}
+use Rattle.jxl_record.specs.Record.{fresh, kindOf, overIndex, impossible}
+use Rattle.jxl_record.specs.Theorems.{OneParser, OneKind, OneOverIndex, OneIsImpossible}
+
+pub one-parser : OneParser
+one-parser = one-named fresh
+
+pub one-kind : OneKind
+one-kind p = one-named (kindOf p)
+
+pub one-over-index : OneOverIndex
+one-over-index j = one-named (overIndex j)
+
+pub one-is-impossible : OneIsImpossible
+one-is-impossible p = one-named (impossible p)

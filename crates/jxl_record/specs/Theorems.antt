@@ -1,0 +1,18 @@
+-- One answer: each promise determines what its function gives; proofs/Unique.antt has a proof of each under the same name in small letters.
+use mathlib.Core.Path.{_≡_}
+use Rattle.jxl_base.specs.OneAnswer.{OneAnswer}
+use Rattle.jxl_record.specs.Record.{fresh, kindOf, overIndex, impossible}
+use Rattle.jxl_record.specs.declared.JxlpIndexState.{JxlpIndexState}
+use Rattle.jxl_record.specs.declared.ContainerParser.{ContainerParser}
+
+abbrev pub OneParser : Type 0
+OneParser = OneAnswer (λ r. r ≡ fresh)
+
+abbrev pub OneKind : Type 0
+OneKind = (p : ContainerParser) → OneAnswer (λ r. r ≡ kindOf p)
+
+abbrev pub OneOverIndex : Type 0
+OneOverIndex = (j : JxlpIndexState) → OneAnswer (λ r. r ≡ overIndex j)
+
+abbrev pub OneIsImpossible : Type 0
+OneIsImpossible = (p : ContainerParser) → OneAnswer (λ r. r ≡ impossible p)

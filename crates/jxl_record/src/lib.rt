@@ -1,0 +1,151 @@
+// The container parser's record, after the Rust's container.rs: a value that goes in and comes back.
+use jxl_headers::BoxRefusal;
+use jxl_headers::BytesLeft;
+ghost use mathlib.Core.Path.{_≡_};
+ghost use Rattle.jxl_record.specs.Record.{fresh, impossible, kindOf, noIndex, overIndex};
+
+// Structure of the decoded bitstream.
+pub enum BitstreamKind {
+    // Not yet told.
+    Unknown,
+    // A direct codestream without box structure.
+    BareCodestream,
+    // A container with box structure.
+    Container,
+    // Not a valid JPEG XL image.
+    Invalid,
+}
+
+// The `jxlc` and `jxlp` boxes so far: none, one `jxlc`, a row of `jxlp` with the index of the newest, a whole row.
+pub enum JxlpIndexState {
+    Initial,
+    SingleJxlc,
+    Jxlp(u32),
+    JxlpFinished,
+}
+
+impl JxlpIndexState {
+    // Whether the current `jxlp` index is above 2^31 - 1, where none is awaited.
+    pub fn over_index(self) -> bool
+        ensures { λ r. ⌜ r ≡ overIndex self ⌝ }
+    {
+        match self {
+            JxlpIndexState::Jxlp(i) => 0x8000_0000 <= i,
+            JxlpIndexState::Initial => false,
+            JxlpIndexState::SingleJxlc => false,
+            JxlpIndexState::JxlpFinished => false,
+        }
+    }
+
+    // Whether no `jxlp` is open, or its awaited index is above 2^31.
+    pub(crate) fn no_index(self) -> bool
+        ensures { λ r. ⌜ r ≡ noIndex self ⌝ }
+    {
+        match self {
+            JxlpIndexState::Jxlp(i) => 0x8000_0000 < i,
+            JxlpIndexState::Initial => true,
+            JxlpIndexState::SingleJxlc => true,
+            JxlpIndexState::JxlpFinished => true,
+        }
+    }
+}
+
+// What the parser waits for, or is inside of.
+pub enum DetectState {
+    WaitingSignature,
+    WaitingBoxHeader,
+    // The 4 bytes of a `jxlp` index; the payload's size counts them.
+    WaitingJxlpIndex(BytesLeft),
+    // The 4 bytes of a `brob`'s inner type; the payload's size counts them.
+    WaitingInnerType(BytesLeft),
+    InAuxBox {
+        ty: u32,
+        bytes_left: BytesLeft,
+    },
+    InCodestream {
+        kind: BitstreamKind,
+        bytes_left: BytesLeft,
+        pending_no_more_aux_box: bool,
+    },
+    // A refusal stays, and the kind stays what it was.
+    Refused {
+        kind: BitstreamKind,
+        refusal: BoxRefusal,
+    },
+}
+
+// The parser's whole state.
+pub struct ContainerParser {
+    pub state: DetectState,
+    pub jxlp: JxlpIndexState,
+}
+
+impl ContainerParser {
+    // A new parser.
+    pub fn new() -> Self
+        ensures { λ r. ⌜ r ≡ fresh ⌝ }
+    {
+        ContainerParser {
+            state: DetectState::WaitingSignature,
+            jxlp: JxlpIndexState::Initial,
+        }
+    }
+
+    // The kind of bitstream: unknown before KIND, then KIND's.
+    pub fn kind(self) -> BitstreamKind
+        ensures { λ r. ⌜ r ≡ kindOf self ⌝ }
+    {
+        let state = self.state;
+        match state {
+            DetectState::WaitingSignature => BitstreamKind::Unknown,
+            DetectState::WaitingBoxHeader => BitstreamKind::Container,
+            DetectState::WaitingJxlpIndex(_) => BitstreamKind::Container,
+            DetectState::WaitingInnerType(_) => BitstreamKind::Container,
+            DetectState::InAuxBox {
+                ty: _,
+                bytes_left: _,
+            } => BitstreamKind::Container,
+            DetectState::InCodestream {
+                kind,
+                bytes_left: _,
+                pending_no_more_aux_box: _,
+            } => kind,
+            DetectState::Refused { kind, refusal: _ } => kind,
+        }
+    }
+
+    // Whether no file leads to this record.
+    pub fn is_impossible(self) -> bool
+        ensures { λ r. ⌜ r ≡ impossible self ⌝ }
+    {
+        let state = self.state;
+        let jxlp = self.jxlp;
+        match state {
+            DetectState::WaitingJxlpIndex(left) => {
+                if jxlp.no_index() { true } else { left.under(4) }
+            }
+            DetectState::WaitingInnerType(left) => {
+                if jxlp.over_index() {
+                    true
+                } else {
+                    left.under(4)
+                }
+            }
+            DetectState::Refused {
+                kind: _,
+                refusal: _,
+            } => false,
+            DetectState::WaitingSignature => jxlp.over_index(),
+            DetectState::WaitingBoxHeader => jxlp.over_index(),
+            DetectState::InAuxBox {
+                ty: _,
+                bytes_left: _,
+            } => jxlp.over_index(),
+            DetectState::InCodestream {
+                kind: _,
+                bytes_left: _,
+                pending_no_more_aux_box: _,
+            } => jxlp.over_index(),
+        }
+    }
+}
