@@ -1,28 +1,80 @@
-// Runs every worked piece of the paper's boxes step by step, then the records that no file leads to, and prints a line for
-// each: the events in order, the stop, the bytes consumed and unread, and what the record then tells.
-use jxl_container::JxlpIndexState;
+// Runs pieces of the format: each line of the list is a record and a file in hex. The record is given nothing, then the file;
+// if it refuses, the file again and nothing. Prints a line for each: the answers, then the record's kind and codestream boxes.
+use box_answers::feed;
+use jxl_record::ContainerParser;
+use jxl_record::JxlpIndexState;
 
-mod files;
-mod records;
-mod run;
-mod show;
+mod record;
+
+// Prints the kind that the record tells on request, and its `jxlc` and `jxlp` boxes so far.
+fn print_record(parser: ContainerParser) {
+    io::write_all(1, b" kind ");
+    let kind = [box_answers::answer::letter(parser.kind())];
+    io::write_all(1, &kind);
+    let jxlp = parser.jxlp;
+    match jxlp {
+        JxlpIndexState::Initial => io::write_all(1, b" boxes none\n"),
+        JxlpIndexState::SingleJxlc => io::write_all(1, b" boxes jxlc\n"),
+        JxlpIndexState::JxlpFinished => io::write_all(1, b" boxes last\n"),
+        JxlpIndexState::Jxlp(i) => {
+            io::write_all(1, b" boxes jxlp ");
+            io::print_decimal(1, i as u64);
+            io::write_all(1, b"\n")
+        }
+    }
+    ;
+}
+
+// Feeds the file to the record, prints what that gives, and answers the feed behind it.
+fn fed(name: &[u8], parser: ContainerParser, file: &[u8]) -> feed::Feed {
+    let mut out = [0u8; 1024];
+    let after = feed::packet(&mut out, file, file.len(), feed::start(parser));
+    io::write_all(1, name);
+    io::write_all(1, feed::part(&out, 0, after.to));
+    print_record(after.parser);
+    after
+}
+
+// A piece: the record given nothing and the file; where it refuses, the file again and nothing.
+fn piece(parser: ContainerParser, file: &[u8]) {
+    fed(b"  nothing: ", parser, b"");
+    let after = fed(b"  given: ", parser, file);
+    if after.refused {
+        let again = fed(b"  again: ", after.parser, file);
+        fed(b"  nothing: ", again.parser, b"");
+    }
+}
+
+// One line of the list: `NAME: STATE LEFT BOXES HEX`, printed as far as its name and run; any other line is a heading.
+fn take_line(line: &[u8]) {
+    let colon = replay_text::find(line, 0, b':');
+    io::write_all(1, feed::part(line, 0, colon));
+    io::write_all(1, b"\n");
+    if line.len() <= colon {
+        return;
+    }
+    let state = replay_text::find(line, colon, b' ');
+    let left = replay_text::find(line, std::num::wrapping_add_usize(state, 1), b' ');
+    let boxes = replay_text::find(line, std::num::wrapping_add_usize(left, 1), b' ');
+    let hex = replay_text::find(line, std::num::wrapping_add_usize(boxes, 1), b' ');
+    let mut file = [0u8; 128];
+    let n = box_answers::put_file(&mut file, line, std::num::wrapping_add_usize(hex, 1));
+    let parser = record::parser(line, state, left, boxes);
+    piece(parser, feed::part(&file, 0, n));
+}
+
+// Goes through the list, line by line.
+fn run(text: &[u8]) {
+    let mut at = 0;
+    while at < text.len() {
+        let end = replay_text::line_end(text, at);
+        take_line(feed::part(text, at, end));
+        at = end + 1;
+    }
+}
 
 fn main() {
-    files::signatures();
-    files::codestream_boxes();
-    files::header_sizes();
-    files::compressed_boxes();
-    files::listing();
-    show::text(b"\nRecords that no file leads to, and their lawful neighbours\n");
-    records::index_with_no_jxlp();
-    records::index_in_short_payload();
-    records::index_too_large();
-    records::type_in_short_payload();
-    show::text(b"\nThe current index 2^31\n");
-    records::current_index(JxlpIndexState::Jxlp(0x8000_0000));
-    show::text(b"\nThe current index 2^31 - 1\n");
-    records::current_index(JxlpIndexState::Jxlp(0x7fff_ffff));
-    show::text(b"\nRefused parsers\n");
-    records::refused_again();
-    records::refused_with_large_index();
+    let mut text = [0u8; 16384];
+    let n = io::read_full(0, &mut text);
+    run(&text[..n]);
 }

@@ -1,7 +1,6 @@
 // Replays the Rust's stored answers on boxes: each file of the list is fed in the packets of each of its lines, and every
 // event, count and refusal is compared with the line. Prints the numbers of the first lines that differ, then the counts.
-mod answer;
-mod feed;
+use box_answers::feed;
 
 // The lines passed, the length of the newest file, the feedings compared, the answers in them, and the feedings that differ.
 struct Tally {
@@ -28,18 +27,6 @@ fn count(s: &[u8], b: u8) -> u64 {
 // How many answers a line's EVENTS are: they are parted by single spaces.
 fn answers_in(told: &[u8]) -> u64 {
     std::num::wrapping_add_u64(count(told, b' '), 1)
-}
-
-// Puts the bytes of a line `f HEX` at the front of `file`, and answers how many there are.
-fn put_file(file: &mut [u8], line: &[u8]) -> usize {
-    let mut at = 0;
-    let mut i = 2;
-    while i < line.len() {
-        let byte = replay_text::parse_hex(feed::part(line, i, i + 2), 0);
-        at = replay_text::put_byte(file, at, (byte.value % 256) as u8);
-        i += 2;
-    }
-    at
 }
 
 // Prints the number of a line that differs, for the first ten.
@@ -77,7 +64,7 @@ fn take_line(file: &mut [u8], line: &[u8], tally: Tally) -> Tally {
     if replay_text::byte_at(line, 0) == b'f' {
         return Tally {
             lines: std::num::wrapping_add_u64(tally.lines, 1),
-            file_len: put_file(file, line),
+            file_len: box_answers::put_file(file, line, 2),
             feedings: tally.feedings,
             answers: tally.answers,
             differ: tally.differ,

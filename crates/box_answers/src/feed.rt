@@ -1,4 +1,4 @@
-// A file fed to a new parser in packets, each behind the bytes that the feeds before left unread.
+// A file fed to a parser in packets, each behind the bytes that the feeds before left unread.
 use crate::answer;
 use jxl_container::BitstreamKind;
 use jxl_container::ContainerParser;
@@ -6,13 +6,25 @@ use jxl_container::ParseEvent;
 use jxl_container::StepResult;
 
 // The record, the bytes consumed, the kind that an event told, the place behind the answer so far, and how the last step ended.
-struct Feed {
-    parser: ContainerParser,
-    consumed: usize,
-    told: BitstreamKind,
-    to: usize,
-    stopped: bool,
-    refused: bool,
+pub struct Feed {
+    pub parser: ContainerParser,
+    pub consumed: usize,
+    pub told: BitstreamKind,
+    pub to: usize,
+    pub stopped: bool,
+    pub refused: bool,
+}
+
+// The start of a feed: a record, nothing consumed, and no answer yet.
+pub fn start(parser: ContainerParser) -> Feed {
+    Feed {
+        parser,
+        consumed: 0,
+        told: parser.kind(),
+        to: 0,
+        stopped: false,
+        refused: false,
+    }
 }
 
 // The bytes from `at` up to `end`; none if they lie outside.
@@ -50,14 +62,7 @@ fn is_payload(file: &[u8], base: usize, input: &[u8], event: ParseEvent) -> bool
             len,
             shown,
         ),
-        ParseEvent::BitstreamKind(_) => shown.len() == 0,
-        ParseEvent::NoMoreAuxBox => shown.len() == 0,
-        ParseEvent::AuxBoxStart {
-            ty: _,
-            brotli_compressed: _,
-            last_box: _,
-        } => shown.len() == 0,
-        ParseEvent::AuxBoxEnd { ty: _ } => shown.len() == 0,
+        _ => shown.len() == 0,
     }
 }
 
@@ -157,22 +162,21 @@ fn is_kind(feed: Feed) -> bool {
 }
 
 // The packet that ends at `end` of the file: its steps, the rules that hold behind it, and the bytes consumed.
-fn packet(out: &mut [u8], file: &[u8], end: usize, before: Feed) -> Feed {
+pub fn packet(out: &mut [u8], file: &[u8], end: usize, before: Feed) -> Feed {
     let feed = steps(out, file, end, before);
     let read = answer::rule(out, feed.to, is_read(feed, end));
     let known = answer::rule(out, read, is_kind(feed));
     let to = answer::packet_end(out, known, feed.consumed);
     let parser = feed.parser;
     let told = feed.told;
-    stepped(
+    Feed {
         parser,
-        feed.consumed,
-        0,
+        consumed: feed.consumed,
         told,
         to,
-        feed.stopped,
-        feed.refused,
-    )
+        stopped: feed.stopped,
+        refused: feed.refused,
+    }
 }
 
 // The file fed in packets of the lengths `cuts`, nothing after a refusal. The answer stands at the front of `out`, and its

@@ -5,8 +5,8 @@ use Prim.Native.Nat.{_-_}
 use native.Mathlib.Omega.{arith}
 use lib.ListN.{length}
 use borrow.Author.Needs.{needs}
-use Rattle.replay_boxes.proofs.feed.whole.Statement.{statement}
-use Rattle.replay_boxes.proofs.feed.whole.Tie as tie
+use Rattle.box_answers.proofs.feed.whole.Statement.{statement}
+use Rattle.box_answers.proofs.feed.whole.Tie as tie
 
 abbrev Inv-loop : tie.InvT-loop
 Inv-loop out₀ file cuts feed₀ end₀ at₀ out feed end at = length out ≡ length out₀

@@ -4,14 +4,14 @@ use mathlib.Core.Path.{_≡_}
 use Prim.Native.Nat.{_-_}
 use lib.ListN.{length}
 use borrow.Author.Needs.{needs}
-use Rattle.replay_boxes.proofs.put_file.Statement.{statement}
-use Rattle.replay_boxes.proofs.put_file.Tie as tie
+use Rattle.box_answers.proofs.put_file.Statement.{statement}
+use Rattle.box_answers.proofs.put_file.Tie as tie
 
 abbrev Inv-loop : tie.InvT-loop
-Inv-loop file₀ line at₀ i₀ file at i = length file ≡ length file₀
+Inv-loop file₀ line from at₀ i₀ file at i = length file ≡ length file₀
 
 abbrev μ-loop : tie.MeasureT-loop
-μ-loop file₀ line at₀ i₀ file at i = length line - i
+μ-loop file₀ line from at₀ i₀ file at i = length line - i
 
 loop-holds : tie.Need-loop-holds Inv-loop μ-loop
 loop-holds c = search needs
