@@ -1,26 +1,7 @@
 -- Two answers that meet a promise are equal.
-use mathlib.Core.Path.{_≡_}
-use Rattle.jxl_base.proofs.OneAnswer.{one-told}
-use Rattle.jxl_headers.specs.Refusals.{why}
-use Rattle.jxl_container.specs.Told.{OneStep, told}
 use Rattle.jxl_grammar.specs.Step.{stepOf}
-use Rattle.jxl_headers.proofs.Header.{why-one}
-use Rattle.jxl_container.specs.declared.StepResult.{StepResult}
-use Rattle.jxl_container.specs.declared.StepResult.the-variants as A
-
-told-one : (x y : StepResult) → told x ≡ told y → x ≡ y
-told-one (A.Shown p n e) (A.Shown q m f) h = cc
-told-one (A.Shown p n e) (A.Want q m) h = cc
-told-one (A.Shown p n e) (A.Refused q m r) h = cc
-told-one (A.Want p n) (A.Shown q m f) h = cc
-told-one (A.Want p n) (A.Want q m) h = cc
-told-one (A.Want p n) (A.Refused q m r) h = cc
-told-one (A.Refused p n r) (A.Shown q m f) h = cc
-told-one (A.Refused p n r) (A.Want q m) h = cc
-told-one (A.Refused p n r) (A.Refused q m u) h =
-    let same : why r ≡ why u = cc in
-    let name : r ≡ u = why-one r u same in
-    cc
+use Rattle.jxl_payloads.proofs.Unique.{one-result}
+use Rattle.jxl_container.specs.Theorems.{OneStep}
 
 pub one-step : OneStep
-one-step p s = one-told told told-one (stepOf p s)
+one-step p s = one-result (stepOf p s)

@@ -4,17 +4,20 @@ use jxl_headers::box_header;
 use jxl_headers::box_header::HeaderParseResult;
 use jxl_headers::consts;
 use jxl_headers::consts::Signature;
+use jxl_payloads::code_step;
+use jxl_payloads::index_step;
+use jxl_payloads::inner_step;
+use jxl_payloads::refuse;
 ghost use mathlib.Core.Path.{_≡_};
 ghost use mathlib.Core.Bool.{false};
 ghost use mathlib.Core.List.{[]};
-ghost use Prim.Native.Nat.{_+_, _^_, _≤_, _<_, min};
+ghost use Prim.Native.Nat.{_≤_};
 ghost use lib.ListN.{length, drop};
-ghost use Rattle.jxl_headers.specs.Types.{reserved};
 ghost use Rattle.jxl_headers.specs.Signature.{signatureOf};
 ghost use Rattle.jxl_headers.specs.Header.{headerOf};
-ghost use Rattle.jxl_record.specs.Record.{at, impossible, overIndex};
+ghost use Rattle.jxl_record.specs.Record.{impossible, overIndex};
 ghost use Rattle.jxl_grammar.specs.Step as Spec;
-ghost use Rattle.jxl_container.specs.Told.{told};
+ghost use Rattle.jxl_payloads.specs.Told.{told};
 
 // What a user of the container needs, from one place.
 pub use jxl_events::ParseEvent;
@@ -27,35 +30,11 @@ pub use jxl_joiner::Added;
 pub use jxl_joiner::Joiner;
 pub use jxl_joiner::MaybeEvent;
 pub use jxl_joiner::most_events;
+pub use jxl_payloads::StepResult;
 pub use jxl_record::BitstreamKind;
 pub use jxl_record::ContainerParser;
 pub use jxl_record::DetectState;
 pub use jxl_record::JxlpIndexState;
-
-// A step's answer. The next record and the bytes consumed come first in every case, so that the compiler copies no padding.
-pub enum StepResult {
-    Shown {
-        next: ContainerParser,
-        consumed: usize,
-        event: ParseEvent,
-    },
-    Want {
-        next: ContainerParser,
-        consumed: usize,
-    },
-    Refused {
-        next: ContainerParser,
-        consumed: usize,
-        refusal: BoxRefusal,
-    },
-}
-
-// The one place where a record is made.
-fn parser_at(state: DetectState, jxlp: JxlpIndexState) -> ContainerParser
-    ensures { λ r. ⌜ r ≡ at state jxlp ⌝ }
-{
-    ContainerParser { state, jxlp }
-}
 
 // The same reach, made anew field by field: a copy takes the unused bytes along, which costs more than the step itself.
 fn anew(left: BytesLeft) -> BytesLeft
@@ -74,20 +53,24 @@ fn same(p: ContainerParser) -> ContainerParser
     let state = p.state;
     let jxlp = p.jxlp;
     match state {
-        DetectState::WaitingSignature => { parser_at(DetectState::WaitingSignature, jxlp) }
-        DetectState::WaitingBoxHeader => { parser_at(DetectState::WaitingBoxHeader, jxlp) }
+        DetectState::WaitingSignature => {
+            ContainerParser::at(DetectState::WaitingSignature, jxlp)
+        }
+        DetectState::WaitingBoxHeader => {
+            ContainerParser::at(DetectState::WaitingBoxHeader, jxlp)
+        }
         DetectState::WaitingJxlpIndex(left) => {
-            parser_at(DetectState::WaitingJxlpIndex(anew(left)), jxlp)
+            ContainerParser::at(DetectState::WaitingJxlpIndex(anew(left)), jxlp)
         }
         DetectState::WaitingInnerType(left) => {
-            parser_at(DetectState::WaitingInnerType(anew(left)), jxlp)
+            ContainerParser::at(DetectState::WaitingInnerType(anew(left)), jxlp)
         }
         DetectState::InAuxBox {
             ty,
             bytes_left: left,
         } => {
             let l = anew(left);
-            parser_at(DetectState::InAuxBox { ty, bytes_left: l }, jxlp)
+            ContainerParser::at(DetectState::InAuxBox { ty, bytes_left: l }, jxlp)
         }
         DetectState::InCodestream {
             kind,
@@ -100,24 +83,11 @@ fn same(p: ContainerParser) -> ContainerParser
                 bytes_left: l,
                 pending_no_more_aux_box,
             };
-            parser_at(anew, jxlp)
+            ContainerParser::at(anew, jxlp)
         }
         DetectState::Refused { kind, refusal } => {
-            parser_at(DetectState::Refused { kind, refusal }, jxlp)
+            ContainerParser::at(DetectState::Refused { kind, refusal }, jxlp)
         }
-    }
-}
-
-// A refusal: the parser is refused from now on, and its kind stays what it was.
-fn refuse(refusal: BoxRefusal, p: ContainerParser, consumed: usize) -> StepResult
-    ensures { λ r. ⌜ told r ≡ Spec.refuse refusal p consumed ⌝ }
-{
-    let kind = p.kind();
-    let jxlp = p.jxlp;
-    StepResult::Refused {
-        refusal,
-        next: parser_at(DetectState::Refused { kind, refusal }, jxlp),
-        consumed,
     }
 }
 
@@ -129,11 +99,11 @@ fn signature_step(jxlp: JxlpIndexState, s: &[u8]) -> StepResult
         Signature::Bare => kind_step(BitstreamKind::BareCodestream, jxlp),
         Signature::Container => StepResult::Shown {
             event: ParseEvent::BitstreamKind(BitstreamKind::Container),
-            next: parser_at(DetectState::WaitingBoxHeader, jxlp),
+            next: ContainerParser::at(DetectState::WaitingBoxHeader, jxlp),
             consumed: 12,
         },
         Signature::TooShort => StepResult::Want {
-            next: parser_at(DetectState::WaitingSignature, jxlp),
+            next: ContainerParser::at(DetectState::WaitingSignature, jxlp),
             consumed: 0,
         },
         Signature::Neither => kind_step(BitstreamKind::Invalid, jxlp),
@@ -146,217 +116,15 @@ fn kind_step(kind: BitstreamKind, jxlp: JxlpIndexState) -> StepResult
 {
     StepResult::Shown {
         event: ParseEvent::BitstreamKind(kind),
-        next: in_codestream(kind, BytesLeft::ToEnd, true, jxlp),
+        next: ContainerParser::at(
+            DetectState::InCodestream {
+                kind,
+                bytes_left: BytesLeft::ToEnd,
+                pending_no_more_aux_box: true,
+            },
+            jxlp,
+        ),
         consumed: 0,
-    }
-}
-
-// A record inside a codestream.
-fn in_codestream(
-    kind: BitstreamKind,
-    left: BytesLeft,
-    pending: bool,
-    jxlp: JxlpIndexState,
-) -> ContainerParser
-    ensures { λ r. ⌜ r ≡ Spec.inCode kind left pending jxlp ⌝ }
-{
-    let state = DetectState::InCodestream {
-        kind,
-        bytes_left: left,
-        pending_no_more_aux_box: pending,
-    };
-    parser_at(state, jxlp)
-}
-
-// The `n` bytes of input at `at`, at least one, inside a codestream.
-fn code_part(
-    jxlp: JxlpIndexState,
-    kind: BitstreamKind,
-    left: BytesLeft,
-    at: usize,
-    n: usize,
-) -> StepResult
-    requires { ⌜ at + n < 2 ^ 64 ⌝ }
-    ensures { λ r. ⌜ told r ≡ Spec.ahead at (Spec.codePart jxlp kind left n) ⌝ }
-{
-    match left {
-        BytesLeft::ToEnd => StepResult::Shown {
-            event: ParseEvent::Codestream { at, len: n },
-            next: in_codestream(kind, BytesLeft::ToEnd, false, jxlp),
-            consumed: at + n,
-        },
-        BytesLeft::Bytes(m) => {
-            if m <= n as u64 {
-                let len = m as usize;
-                StepResult::Shown {
-                    event: ParseEvent::Codestream { at, len },
-                    next: parser_at(DetectState::WaitingBoxHeader, jxlp),
-                    consumed: at + len,
-                }
-            } else {
-                StepResult::Shown {
-                    event: ParseEvent::Codestream { at, len: n },
-                    next: in_codestream(kind, BytesLeft::Bytes(m - n as u64), false, jxlp),
-                    consumed: at + n,
-                }
-            }
-        }
-    }
-}
-
-// Inside a codestream, at `at`.
-fn code_step(
-    jxlp: JxlpIndexState,
-    kind: BitstreamKind,
-    left: BytesLeft,
-    pending: bool,
-    s: &[u8],
-    at: usize,
-) -> StepResult
-    requires { ⌜ at ≤ length (now s) ⌝ }
-    ensures { λ r. ⌜ told r ≡ Spec.ahead at (Spec.codeStep jxlp kind left pending (drop at (now (s .entry)))) ⌝ }
-{
-    if s.len() <= at {
-        return StepResult::Want {
-            next: in_codestream(kind, left, pending, jxlp),
-            consumed: at,
-        };
-    }
-    if pending {
-        return StepResult::Shown {
-            event: ParseEvent::NoMoreAuxBox,
-            next: in_codestream(kind, left, false, jxlp),
-            consumed: at,
-        };
-    }
-    code_part(jxlp, kind, left, at, s.len() - at)
-}
-
-// Inside a side box, with `n` bytes of input, at least one.
-fn aux_part(jxlp: JxlpIndexState, ty: u32, left: BytesLeft, n: usize) -> StepResult
-    ensures { λ r. ⌜ told r ≡ Spec.auxPart jxlp ty left n ⌝ }
-{
-    match left {
-        BytesLeft::ToEnd => StepResult::Shown {
-            event: ParseEvent::AuxBoxData { ty, at: 0, len: n },
-            next: parser_at(
-                DetectState::InAuxBox {
-                    ty,
-                    bytes_left: BytesLeft::ToEnd,
-                },
-                jxlp,
-            ),
-            consumed: n,
-        },
-        BytesLeft::Bytes(m) => {
-            if m == 0 {
-                return StepResult::Shown {
-                    event: ParseEvent::AuxBoxEnd { ty },
-                    next: parser_at(DetectState::WaitingBoxHeader, jxlp),
-                    consumed: 0,
-                };
-            }
-            let len = least(m, n);
-            StepResult::Shown {
-                event: ParseEvent::AuxBoxData { ty, at: 0, len },
-                next: parser_at(
-                    DetectState::InAuxBox {
-                        ty,
-                        bytes_left: BytesLeft::Bytes(m - len as u64),
-                    },
-                    jxlp,
-                ),
-                consumed: len,
-            }
-        }
-    }
-}
-
-// The smaller of the two.
-fn least(m: u64, n: usize) -> usize
-    ensures { λ r. ⌜ r ≡ min m n ⌝ }
-{
-    if m <= n as u64 { m as usize } else { n }
-}
-
-// The row of `jxlp` boxes behind index `i`: bit 31 marks the last.
-fn row(word: u32, i: u32) -> JxlpIndexState
-    ensures { λ r. ⌜ r ≡ Spec.row word i ⌝ }
-{
-    if 0x8000_0000 <= word {
-        JxlpIndexState::JxlpFinished
-    } else {
-        JxlpIndexState::Jxlp(i)
-    }
-}
-
-// A `jxlp` payload at `at`, whose index must be `i`.
-fn index_step(i: u32, left: BytesLeft, s: &[u8], at: usize) -> StepResult
-    requires { ⌜ at ≤ length (now s) ⌝ }
-    ensures { λ r. ⌜ told r ≡ Spec.ahead at (Spec.indexStep i left (drop at (now (s .entry)))) ⌝ }
-{
-    let waiting = parser_at(DetectState::WaitingJxlpIndex(left), JxlpIndexState::Jxlp(i));
-    if s.len() - at < 4 {
-        return StepResult::Want {
-            next: waiting,
-            consumed: at,
-        };
-    }
-    let word = box_header::be32_at(s, at);
-    if word % 0x8000_0000 == i {
-        return code_step(
-            row(word, i),
-            BitstreamKind::Container,
-            left.less(4),
-            left.to_end(),
-            s,
-            at + 4,
-        );
-    }
-    refuse(BoxRefusal::InvalidBox, waiting, at + 4)
-}
-
-// Whether the type may not stand inside a `brob`.
-fn is_reserved(ty: u32) -> bool
-    ensures { λ r. ⌜ r ≡ reserved ty ⌝ }
-{
-    if ty / 256 == 0x6a786c {
-        return true;
-    }
-    if ty == box_header::BROTLI_COMPRESSED {
-        return true;
-    }
-    ty == box_header::JPEG_RECONSTRUCTION
-}
-
-// A `brob` payload at `at`.
-fn inner_step(jxlp: JxlpIndexState, left: BytesLeft, s: &[u8], at: usize) -> StepResult
-    requires { ⌜ at ≤ length (now s) ⌝ }
-    ensures { λ r. ⌜ told r ≡ Spec.ahead at (Spec.innerStep jxlp left (drop at (now (s .entry)))) ⌝ }
-{
-    let waiting = parser_at(DetectState::WaitingInnerType(left), jxlp);
-    if s.len() - at < 4 {
-        return StepResult::Want {
-            next: waiting,
-            consumed: at,
-        };
-    }
-    let ty = box_header::be32_at(s, at);
-    if is_reserved(ty) {
-        return refuse(BoxRefusal::ValidationFailed, waiting, at + 4);
-    }
-    let state = DetectState::InAuxBox {
-        ty,
-        bytes_left: left.less(4),
-    };
-    StepResult::Shown {
-        event: ParseEvent::AuxBoxStart {
-            ty,
-            brotli_compressed: true,
-            last_box: left.to_end(),
-        },
-        next: parser_at(state, jxlp),
-        consumed: at + 4,
     }
 }
 
@@ -366,7 +134,7 @@ fn refuse_box(jxlp: JxlpIndexState, at: usize) -> StepResult
 {
     refuse(
         BoxRefusal::InvalidBox,
-        parser_at(DetectState::WaitingBoxHeader, jxlp),
+        ContainerParser::at(DetectState::WaitingBoxHeader, jxlp),
         at,
     )
 }
@@ -446,7 +214,7 @@ fn box_step(jxlp: JxlpIndexState, ty: u32, left: BytesLeft, s: &[u8], at: usize)
             brotli_compressed: false,
             last_box: left.to_end(),
         },
-        next: parser_at(
+        next: ContainerParser::at(
             DetectState::InAuxBox {
                 ty,
                 bytes_left: left,
@@ -462,7 +230,7 @@ fn header_step(jxlp: JxlpIndexState, s: &[u8]) -> StepResult
     requires { ⌜ overIndex jxlp ≡ false ⌝ }
     ensures { λ r. ⌜ told r ≡ Spec.headerStep jxlp (now (s .entry)) (headerOf (now (s .entry))) ⌝ }
 {
-    let waiting = parser_at(DetectState::WaitingBoxHeader, jxlp);
+    let waiting = ContainerParser::at(DetectState::WaitingBoxHeader, jxlp);
     match box_header::parse_header(s) {
         HeaderParseResult::NeedMoreData => StepResult::Want {
             next: waiting,
@@ -507,7 +275,7 @@ fn state_step(p: ContainerParser, s: &[u8]) -> StepResult
         DetectState::InAuxBox {
             ty,
             bytes_left: left,
-        } => aux_part(jxlp, ty, left, s.len()),
+        } => jxl_payloads::aux_step(jxlp, ty, left, s.len()),
         DetectState::InCodestream {
             kind,
             bytes_left: left,

@@ -2,7 +2,7 @@
 use jxl_headers::BoxRefusal;
 use jxl_headers::BytesLeft;
 ghost use mathlib.Core.Path.{_≡_};
-ghost use Rattle.jxl_record.specs.Record.{fresh, impossible, kindOf, noIndex, overIndex};
+ghost use Rattle.jxl_record.specs.Record.{at, fresh, impossible, kindOf, noIndex, overIndex};
 
 // Structure of the decoded bitstream.
 pub enum BitstreamKind {
@@ -89,6 +89,13 @@ impl ContainerParser {
             state: DetectState::WaitingSignature,
             jxlp: JxlpIndexState::Initial,
         }
+    }
+
+    // A record of these two.
+    pub fn at(state: DetectState, jxlp: JxlpIndexState) -> Self
+        ensures { λ r. ⌜ r ≡ at state jxlp ⌝ }
+    {
+        ContainerParser { state, jxlp }
     }
 
     // The kind of bitstream: unknown before KIND, then KIND's.

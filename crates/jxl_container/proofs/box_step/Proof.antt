@@ -26,12 +26,12 @@ returns-3 c = rw (box-brob _ _ _ _ (c .before .if3 .taken)) (c .brob-step .ensur
 to-end-requires : tie.Need-to-end-requires
 to-end-requires c κs = search needs
 
-parser-at-requires : tie.Need-parser-at-requires
-parser-at-requires c κs = search needs
+at-requires : tie.Need-at-requires
+at-requires c κs = search needs
 
 returns-4 : tie.Need-returns-4
 returns-4 c =
-    rw (box-aux _ _ _ _ (c .before .before .before .before .if1 .left) (c .before .before .before .if2 .left) (c .before .before .if3 .left), c .before .to-end .ensures, c .parser-at .ensures, add-zero)
+    rw (box-aux _ _ _ _ (c .before .before .before .before .if1 .left) (c .before .before .before .if2 .left) (c .before .before .if3 .left), c .before .to-end .ensures, c .at .ensures, add-zero)
 
 pub box-step-spec : {M : Type 1} → statement M
 box-step-spec =
@@ -44,5 +44,5 @@ box-step-spec =
     brob-step-requires
     returns-3
     to-end-requires
-    parser-at-requires
+    at-requires
     returns-4)

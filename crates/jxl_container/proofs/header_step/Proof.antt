@@ -6,8 +6,8 @@ use borrow.Author.Needs.{needs}
 use Rattle.jxl_container.proofs.header_step.Statement.{statement}
 use Rattle.jxl_container.proofs.header_step.Tie as tie
 
-parser-at-requires : tie.Need-parser-at-requires
-parser-at-requires c κs = search needs
+at-requires : tie.Need-at-requires
+at-requires c κs = search needs
 
 parse-header-requires : tie.Need-parse-header-requires
 parse-header-requires c κs = search needs
@@ -30,12 +30,12 @@ box-step-requires c κs =
 
 returns : tie.Need-returns
 returns c =
-    rw (says (now (c .before .before .before .before .before .args .s)) short (c .before .before .parse-header .ensures) (ap toldHeader (c .enum-told .given .1)), c .before .before .before .parser-at .ensures)
+    rw (says (now (c .before .before .before .before .before .args .s)) short (c .before .before .parse-header .ensures) (ap toldHeader (c .enum-told .given .1)), c .before .before .before .at .ensures)
 
 returns-2 : tie.Need-returns-2
 returns-2 c =
     c .refuse .ensures
-    ∙ rw (says (now (c .before .before .before .before .before .before .before .args .s)) (bad (c .before .before .refusal .given .0 .0)) (c .before .before .before .before .parse-header .ensures) (ap toldHeader (c .before .before .refusal .given .1)), c .before .before .before .before .before .parser-at .ensures)
+    ∙ rw (says (now (c .before .before .before .before .before .before .before .args .s)) (bad (c .before .before .refusal .given .0 .0)) (c .before .before .before .before .parse-header .ensures) (ap toldHeader (c .before .before .refusal .given .1)), c .before .before .before .before .before .at .ensures)
 
 returns-3 : tie.Need-returns-3
 returns-3 c =
@@ -45,7 +45,7 @@ pub header-step-spec : {M : Type 1} → statement M
 header-step-spec =
     tie.close
     (tie.spec
-    parser-at-requires
+    at-requires
     parse-header-requires
     enum-told
     enum-known-refusal

@@ -4,14 +4,14 @@ use borrow.Author.Needs.{needs}
 use Rattle.jxl_container.proofs.refuse_box.Statement.{statement}
 use Rattle.jxl_container.proofs.refuse_box.Tie as tie
 
-parser-at-requires : tie.Need-parser-at-requires
-parser-at-requires c κs = search needs
+at-requires : tie.Need-at-requires
+at-requires c κs = search needs
 
 refuse-requires : tie.Need-refuse-requires
 refuse-requires c κs = search needs
 
 returns : tie.Need-returns
-returns c = c .refuse .ensures ∙ rw (c .before .parser-at .ensures, add-zero)
+returns c = c .refuse .ensures ∙ rw (c .before .at .ensures, add-zero)
 
 pub refuse-box-spec : {M : Type 1} → statement M
-refuse-box-spec = tie.close (tie.spec parser-at-requires refuse-requires returns)
+refuse-box-spec = tie.close (tie.spec at-requires refuse-requires returns)

@@ -15,14 +15,14 @@ kind-step-requires c κs = search needs
 enum-told-2 : tie.Need-enum-told-2
 enum-told-2 c = search needs
 
-parser-at-requires : tie.Need-parser-at-requires
-parser-at-requires c κs = search needs
+at-requires : tie.Need-at-requires
+at-requires c κs = search needs
 
 enum-told-3 : tie.Need-enum-told-3
 enum-told-3 c = search needs
 
-parser-at-requires-2 : tie.Need-parser-at-requires-2
-parser-at-requires-2 c κs = search needs
+at-requires-2 : tie.Need-at-requires-2
+at-requires-2 c κs = search needs
 
 enum-told-4 : tie.Need-enum-told-4
 enum-told-4 c = search needs
@@ -34,10 +34,10 @@ returns : tie.Need-returns
 returns c = rw (sym (c .before .before .before .which-signature .ensures) ∙ c .before .enum-told .given .1) (c .kind-step .ensures)
 
 returns-2 : tie.Need-returns-2
-returns-2 c = rw (sym (c .before .before .before .which-signature .ensures) ∙ c .before .enum-told2 .given .1, c .parser-at .ensures)
+returns-2 c = rw (sym (c .before .before .before .which-signature .ensures) ∙ c .before .enum-told2 .given .1, c .at .ensures)
 
 returns-3 : tie.Need-returns-3
-returns-3 c = rw (sym (c .before .before .before .which-signature .ensures) ∙ c .before .enum-told3 .given .1, c .parser-at2 .ensures)
+returns-3 c = rw (sym (c .before .before .before .which-signature .ensures) ∙ c .before .enum-told3 .given .1, c .at2 .ensures)
 
 returns-4 : tie.Need-returns-4
 returns-4 c = rw (sym (c .before .before .before .which-signature .ensures) ∙ c .before .enum-told4 .given .1) (c .kind-step2 .ensures)
@@ -50,9 +50,9 @@ signature-step-spec =
     enum-told
     kind-step-requires
     enum-told-2
-    parser-at-requires
+    at-requires
     enum-told-3
-    parser-at-requires-2
+    at-requires-2
     enum-told-4
     kind-step-requires-2
     returns

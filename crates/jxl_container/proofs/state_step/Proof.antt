@@ -34,8 +34,8 @@ inner-step-requires c κs = search needs
 enum-known-state-3 : tie.Need-enum-known-state-3
 enum-known-state-3 c = search needs
 
-aux-part-requires : tie.Need-aux-part-requires
-aux-part-requires c κs = search needs
+aux-step-requires : tie.Need-aux-step-requires
+aux-step-requires c κs = search needs
 
 enum-known-state-4 : tie.Need-enum-known-state-4
 enum-known-state-4 c = search needs
@@ -60,7 +60,7 @@ returns-4 : tie.Need-returns-4
 returns-4 c = rw (c .before .before .state2 .given .1) (rw ahead-zero at (c .inner-step .ensures))
 
 returns-5 : tie.Need-returns-5
-returns-5 c = rw (c .before .before .state3 .given .1) (c .aux-part .ensures)
+returns-5 c = rw (c .before .before .state3 .given .1) (c .aux-step .ensures)
 
 returns-6 : tie.Need-returns-6
 returns-6 c = rw (c .before .before .state4 .given .1) (rw ahead-zero at (c .code-step .ensures))
@@ -82,7 +82,7 @@ state-step-spec =
     enum-known-state-2
     inner-step-requires
     enum-known-state-3
-    aux-part-requires
+    aux-step-requires
     enum-known-state-4
     code-step-requires
     enum-known-state-5

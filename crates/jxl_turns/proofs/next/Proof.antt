@@ -1,7 +1,7 @@
 use mathlib.Core.Path.{ap}
 use native.Mathlib.Omega.{arith}
 use denote.Ref.{now}
-use Rattle.jxl_container.specs.Told.{told}
+use Rattle.jxl_payloads.specs.Told.{told}
 use Rattle.jxl_turns.proofs.Text.{far, shown-fits, wants-fits, refuses-fits}
 use borrow.Author.Needs.{needs}
 use Rattle.jxl_turns.proofs.next.Statement.{statement}

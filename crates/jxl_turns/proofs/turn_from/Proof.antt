@@ -7,7 +7,7 @@ use denote.Ref.{now}
 use borrow.Author.Needs.{needs}
 use Rattle.jxl_headers.specs.Refusals.{why}
 use Rattle.jxl_grammar.specs.Step.{shows, wants, refuses, stepOf}
-use Rattle.jxl_container.specs.Told.{told}
+use Rattle.jxl_payloads.specs.Told.{told}
 use Rattle.jxl_grammar.specs.Feeding.{Seen}
 use Rattle.jxl_listing.specs.Putting.{leaves}
 use Rattle.jxl_listing.specs.declared.Put.{Put}

@@ -3,17 +3,17 @@ use Prim.Native.Nat.{ℕ, _%_}
 use denote.Ref.{now}
 use Rattle.jxl_grammar.proofs.Step.{far-index-wants, far-index-right, far-index-wrong}
 use borrow.Author.Needs.{needs}
-use Rattle.jxl_container.proofs.index_step.Statement.{statement}
-use Rattle.jxl_container.proofs.index_step.Tie as tie
+use Rattle.jxl_payloads.proofs.index_step.Statement.{statement}
+use Rattle.jxl_payloads.proofs.index_step.Tie as tie
 
-parser-at-requires : tie.Need-parser-at-requires
-parser-at-requires c κs = search needs
+at-requires : tie.Need-at-requires
+at-requires c κs = search needs
 
-sub-if1 : tie.Need-sub-if1
-sub-if1 c = search needs
+rest-requires : tie.Need-rest-requires
+rest-requires c κs = search needs
 
 returns : tie.Need-returns
-returns c = rw (c .before .parser-at .ensures) (sym (far-index-wants (now (c .before .before .before .args .s)) _ _ _ (c .if1 .taken)))
+returns c = rw (c .before .before .at .ensures) (sym (far-index-wants (now (c .before .before .before .before .args .s)) _ _ _ (rw (c .before .rest .ensures) at (c .if1 .taken))))
 
 be32-at-requires : tie.Need-be32-at-requires
 be32-at-requires c κs = search needs
@@ -37,7 +37,7 @@ returns-2 : tie.Need-returns-2
 returns-2 c =
     c .code-step .ensures
     ∙ rw (c .before .before .before .row .ensures, c .before .before .less .ensures, c .before .to-end .ensures, c .before .before .before .before .before .be32-at .ensures)
-    (sym (far-index-right (now (c .before .before .before .before .before .before .before .before .before .args .s)) _ _ _ (c .before .before .before .before .before .before .if1 .left) (ap (λ (w : ℕ). w % 0x80000000) (sym (c .before .before .before .before .before .be32-at .ensures)) ∙ c .before .before .before .before .if2 .taken)))
+    (sym (far-index-right (now (c .before .before .before .before .before .before .before .before .before .before .args .s)) _ _ _ (rw (c .before .before .before .before .before .before .before .rest .ensures) at (c .before .before .before .before .before .before .if1 .left)) (ap (λ (w : ℕ). w % 0x80000000) (sym (c .before .before .before .before .before .be32-at .ensures)) ∙ c .before .before .before .before .if2 .taken)))
 
 add-refuse : tie.Need-add-refuse
 add-refuse c = search needs
@@ -48,15 +48,15 @@ refuse-requires c κs = search needs
 returns-3 : tie.Need-returns-3
 returns-3 c =
     c .refuse .ensures
-    ∙ rw (c .before .before .before .before .parser-at .ensures)
-    (sym (far-index-wrong (now (c .before .before .before .before .before .before .args .s)) _ _ _ (c .before .before .before .if1 .left) (rw (c .before .before .be32-at .ensures) at (c .before .if2 .left))))
+    ∙ rw (c .before .before .before .before .before .at .ensures)
+    (sym (far-index-wrong (now (c .before .before .before .before .before .before .before .args .s)) _ _ _ (rw (c .before .before .before .before .rest .ensures) at (c .before .before .before .if1 .left)) (rw (c .before .before .be32-at .ensures) at (c .before .if2 .left))))
 
 pub index-step-spec : {M : Type 1} → statement M
 index-step-spec =
     tie.close
     (tie.spec
-    parser-at-requires
-    sub-if1
+    at-requires
+    rest-requires
     returns
     be32-at-requires
     row-requires

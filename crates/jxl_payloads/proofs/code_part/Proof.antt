@@ -2,8 +2,8 @@ use mathlib.Core.Path.{_≡_, sym, ap, _∙_}
 use native.Mathlib.Nat.{add-zero}
 use borrow.Author.Tests.{le-leb, lt-leb}
 use borrow.Author.Needs.{needs}
-use Rattle.jxl_container.proofs.code_part.Statement.{statement}
-use Rattle.jxl_container.proofs.code_part.Tie as tie
+use Rattle.jxl_payloads.proofs.code_part.Statement.{statement}
+use Rattle.jxl_payloads.proofs.code_part.Tie as tie
 
 enum-told : tie.Need-enum-told
 enum-told c = search needs
@@ -17,8 +17,8 @@ add-t12 c = search needs
 enum-known-left : tie.Need-enum-known-left
 enum-known-left c = search needs
 
-parser-at-requires : tie.Need-parser-at-requires
-parser-at-requires c κs = search needs
+at-requires : tie.Need-at-requires
+at-requires c κs = search needs
 
 add-t19 : tie.Need-add-t19
 add-t19 c = search needs
@@ -36,7 +36,7 @@ returns : tie.Need-returns
 returns c = rw (c .in-codestream .ensures, c .before .enum-told .given .1, add-zero)
 
 returns-2 : tie.Need-returns-2
-returns-2 c = rw (c .parser-at .ensures, c .before .before .before .left .given .1, le-leb _ _ (c .before .if1 .taken), add-zero)
+returns-2 c = rw (c .at .ensures, c .before .before .before .left .given .1, le-leb _ _ (c .before .if1 .taken), add-zero)
 
 returns-3 : tie.Need-returns-3
 returns-3 c = rw (c .in-codestream2 .ensures, c .before .before .before .left .given .1, lt-leb _ _ (c .before .if1 .left), add-zero)
@@ -49,7 +49,7 @@ code-part-spec =
     in-codestream-requires
     add-t12
     enum-known-left
-    parser-at-requires
+    at-requires
     add-t19
     sub-t23
     in-codestream-requires-2

@@ -1,0 +1,69 @@
+use mathlib.Core.Path.{_≡_, sym, ap, _∙_}
+use denote.Ref.{now}
+use Rattle.jxl_headers.specs.Types.{reserved}
+use Rattle.jxl_grammar.proofs.Step.{far-inner-wants, far-inner-reserved, far-inner-shows}
+use borrow.Author.Needs.{needs}
+use Rattle.jxl_payloads.proofs.inner_step.Statement.{statement}
+use Rattle.jxl_payloads.proofs.inner_step.Tie as tie
+
+at-requires : tie.Need-at-requires
+at-requires c κs = search needs
+
+rest-requires : tie.Need-rest-requires
+rest-requires c κs = search needs
+
+returns : tie.Need-returns
+returns c = rw (c .before .before .at .ensures) (sym (far-inner-wants (now (c .before .before .before .before .args .s)) _ _ _ (rw (c .before .rest .ensures) at (c .if1 .taken))))
+
+be32-at-requires : tie.Need-be32-at-requires
+be32-at-requires c κs = search needs
+
+is-reserved-requires : tie.Need-is-reserved-requires
+is-reserved-requires c κs = search needs
+
+add-refuse : tie.Need-add-refuse
+add-refuse c = search needs
+
+refuse-requires : tie.Need-refuse-requires
+refuse-requires c κs = search needs
+
+returns-2 : tie.Need-returns-2
+returns-2 c =
+    c .refuse .ensures
+    ∙ rw (c .before .before .before .before .before .before .at .ensures)
+    (sym (far-inner-reserved (now (c .before .before .before .before .before .before .before .before .args .s)) _ _ _ (rw (c .before .before .before .before .before .rest .ensures) at (c .before .before .before .before .if1 .left)) (sym (ap reserved (c .before .before .before .be32-at .ensures)) ∙ sym (c .before .before .is-reserved .ensures) ∙ c .before .if2 .taken)))
+
+less-requires : tie.Need-less-requires
+less-requires c κs = search needs
+
+to-end-requires : tie.Need-to-end-requires
+to-end-requires c κs = search needs
+
+at-requires-2 : tie.Need-at-requires-2
+at-requires-2 c κs = search needs
+
+add-t9 : tie.Need-add-t9
+add-t9 c = search needs
+
+returns-3 : tie.Need-returns-3
+returns-3 c =
+    rw (c .at2 .ensures, c .before .to-end .ensures, c .before .before .less .ensures, c .before .before .before .before .before .be32-at .ensures)
+    (sym (far-inner-shows (now (c .before .before .before .before .before .before .before .before .before .before .args .s)) _ _ _ (rw (c .before .before .before .before .before .before .before .rest .ensures) at (c .before .before .before .before .before .before .if1 .left)) (sym (ap reserved (c .before .before .before .before .before .be32-at .ensures)) ∙ sym (c .before .before .before .before .is-reserved .ensures) ∙ c .before .before .before .if2 .left)))
+
+pub inner-step-spec : {M : Type 1} → statement M
+inner-step-spec =
+    tie.close
+    (tie.spec
+    at-requires
+    rest-requires
+    returns
+    be32-at-requires
+    is-reserved-requires
+    add-refuse
+    refuse-requires
+    returns-2
+    less-requires
+    to-end-requires
+    at-requires-2
+    add-t9
+    returns-3)
