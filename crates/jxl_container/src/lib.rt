@@ -141,7 +141,6 @@ fn refuse_box(jxlp: JxlpIndexState, at: usize) -> StepResult
 
 // A `jxlc` payload at `at`.
 fn jxlc_step(jxlp: JxlpIndexState, left: BytesLeft, s: &[u8], at: usize) -> StepResult
-    requires { ⌜ at ≤ length (now s) ⌝ }
     ensures { λ r. ⌜ told r ≡ Spec.ahead at (Spec.jxlcStep jxlp left (drop at (now (s .entry)))) ⌝ }
 {
     match jxlp {
@@ -161,7 +160,7 @@ fn jxlc_step(jxlp: JxlpIndexState, left: BytesLeft, s: &[u8], at: usize) -> Step
 
 // A `jxlp` payload of 4 bytes or more at `at`: its place in the row.
 fn jxlp_next(jxlp: JxlpIndexState, left: BytesLeft, s: &[u8], at: usize) -> StepResult
-    requires { ⌜ (at ≤ length (now s)) × (overIndex jxlp ≡ false) ⌝ }
+    requires { ⌜ overIndex jxlp ≡ false ⌝ }
     ensures { λ r. ⌜ told r ≡ Spec.ahead at (Spec.jxlpNext jxlp left (drop at (now (s .entry)))) ⌝ }
 {
     match jxlp {
@@ -174,7 +173,7 @@ fn jxlp_next(jxlp: JxlpIndexState, left: BytesLeft, s: &[u8], at: usize) -> Step
 
 // A `jxlp` box behind its header, its size looked at before its place in the row.
 fn jxlp_step(jxlp: JxlpIndexState, left: BytesLeft, s: &[u8], at: usize) -> StepResult
-    requires { ⌜ (at ≤ length (now s)) × (overIndex jxlp ≡ false) ⌝ }
+    requires { ⌜ overIndex jxlp ≡ false ⌝ }
     ensures { λ r. ⌜ told r ≡ Spec.ahead at (Spec.jxlpStep jxlp left (drop at (now (s .entry)))) ⌝ }
 {
     if left.under(4) {
@@ -185,7 +184,6 @@ fn jxlp_step(jxlp: JxlpIndexState, left: BytesLeft, s: &[u8], at: usize) -> Step
 
 // A `brob` box behind its header.
 fn brob_step(jxlp: JxlpIndexState, left: BytesLeft, s: &[u8], at: usize) -> StepResult
-    requires { ⌜ at ≤ length (now s) ⌝ }
     ensures { λ r. ⌜ told r ≡ Spec.ahead at (Spec.brobStep jxlp left (drop at (now (s .entry)))) ⌝ }
 {
     if left.under(4) {
@@ -196,7 +194,7 @@ fn brob_step(jxlp: JxlpIndexState, left: BytesLeft, s: &[u8], at: usize) -> Step
 
 // A box of type `ty` behind its header.
 fn box_step(jxlp: JxlpIndexState, ty: u32, left: BytesLeft, s: &[u8], at: usize) -> StepResult
-    requires { ⌜ (at ≤ length (now s)) × (overIndex jxlp ≡ false) ⌝ }
+    requires { ⌜ overIndex jxlp ≡ false ⌝ }
     ensures { λ r. ⌜ told r ≡ Spec.ahead at (Spec.boxStep jxlp ty left (drop at (now (s .entry)))) ⌝ }
 {
     if ty == box_header::CODESTREAM {

@@ -1,7 +1,7 @@
 use mathlib.Core.Path.{_≡_, sym, ap, _∙_}
 use denote.Ref.{now}
 use Rattle.jxl_headers.specs.Header.{short, bad, box, toldHeader}
-use Rattle.jxl_headers.proofs.Header.{header-fits, says}
+use Rattle.jxl_headers.proofs.Header.{says}
 use borrow.Author.Needs.{needs}
 use Rattle.jxl_container.proofs.header_step.Statement.{statement}
 use Rattle.jxl_container.proofs.header_step.Tie as tie
@@ -25,8 +25,7 @@ enum-known-header : tie.Need-enum-known-header
 enum-known-header c = search needs
 
 box-step-requires : tie.Need-box-step-requires
-box-step-requires c κs =
-    (header-fits (now (c .before .before .before .before .before .before .args .s)) (says (now (c .before .before .before .before .before .before .args .s)) (box _ _ _) (c .before .before .before .parse-header .ensures) (ap toldHeader (c .before .header .given .1))) .1, c .before .before .before .before .before .before .pre)
+box-step-requires c κs = search needs
 
 returns : tie.Need-returns
 returns c =

@@ -22,7 +22,7 @@ enum-known-jxlp c = search needs
 
 add-index-step : tie.Need-add-index-step
 add-index-step c =
-    omega (arith, leb-false 0x80000000 (c .before .jxlp .given .0 .0) (rw (c .before .jxlp .given .1) at (c .before .before .before .before .pre .1)))
+    omega (arith, leb-false 0x80000000 (c .before .jxlp .given .0 .0) (rw (c .before .jxlp .given .1) at (c .before .before .before .before .pre)))
 
 index-step-requires-2 : tie.Need-index-step-requires-2
 index-step-requires-2 c κs = search needs
