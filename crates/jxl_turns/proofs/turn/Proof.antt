@@ -4,11 +4,11 @@ use lib.ListN.{length}
 use denote.Ref.{now}
 use borrow.Author.Needs.{needs}
 use Rattle.jxl_joiner.specs.declared.Joiner.{Joiner}
-use Rattle.jxl_turns.specs.Turned.{Told, Turned, turnFrom, turnOf}
-use Rattle.jxl_turns.specs.declared.AfterTurn.{AfterTurn}
-use Rattle.jxl_turns.specs.declared.TurnEnd.the-variants as TurnEnd
-use Rattle.jxl_turns.proofs.Inside.{told-short}
-use Rattle.jxl_turns.proofs.Turning.{leaving, finish, turn-near, turn-too-far}
+use Rattle.jxl_listed.specs.Turned.{Told, Turned, turnFrom, turnOf}
+use Rattle.jxl_listed.specs.declared.AfterTurn.{AfterTurn}
+use Rattle.jxl_listed.specs.declared.TurnEnd.the-variants as TurnEnd
+use Rattle.jxl_turns.proofs.Going.{leaving, finish, told-short}
+use Rattle.jxl_listed.proofs.Turning.{turn-near, turn-too-far}
 use Rattle.jxl_turns.proofs.turn.Statement.{statement}
 use Rattle.jxl_turns.proofs.turn.Tie as tie
 

@@ -12,12 +12,12 @@ use Rattle.jxl_grammar.specs.Feeding.{Seen}
 use Rattle.jxl_listing.specs.Putting.{leaves}
 use Rattle.jxl_listing.specs.declared.Put.{Put}
 use Rattle.jxl_listing.specs.declared.StopWord.{StopWord}
-use Rattle.jxl_turns.specs.Listed.{nextIn}
-use Rattle.jxl_turns.specs.Turned.{turnFrom}
-use Rattle.jxl_turns.specs.declared.AfterTurn.{AfterTurn}
-use Rattle.jxl_turns.specs.declared.TurnEnd.the-variants as TurnEnd
-use Rattle.jxl_turns.proofs.Text.{count, far, taken-shown, shown-fits, wants-fits, refuses-fits}
-use Rattle.jxl_turns.proofs.Turning.{leaving, Going, going-first, going-on, going-full, going-stopped}
+use Rattle.jxl_listed.specs.Listed.{nextIn}
+use Rattle.jxl_listed.specs.Turned.{turnFrom}
+use Rattle.jxl_listed.specs.declared.AfterTurn.{AfterTurn}
+use Rattle.jxl_listed.specs.declared.TurnEnd.the-variants as TurnEnd
+use Rattle.jxl_listed.proofs.Text.{count, far, taken-shown, shown-fits, wants-fits, refuses-fits}
+use Rattle.jxl_turns.proofs.Going.{leaving, Going, going-first, going-on, going-full, going-stopped}
 use Rattle.jxl_turns.proofs.turn_from.Statement.{statement}
 use Rattle.jxl_turns.proofs.turn_from.Tie as tie
 

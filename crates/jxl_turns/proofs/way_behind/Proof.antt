@@ -1,5 +1,5 @@
 use mathlib.Core.Path.{_≡_, sym, _∙_}
-use Rattle.jxl_turns.proofs.Inside.{leads-on}
+use Rattle.jxl_listed.proofs.Inside.{leads-on}
 use borrow.Author.Needs.{needs}
 use Rattle.jxl_turns.proofs.way_behind.Statement.{statement}
 use Rattle.jxl_turns.proofs.way_behind.Tie as tie

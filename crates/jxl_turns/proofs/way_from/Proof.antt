@@ -1,4 +1,4 @@
-use Rattle.jxl_turns.proofs.Inside.{leads-from, reach-is}
+use Rattle.jxl_listed.proofs.Inside.{leads-from, reach-is}
 use borrow.Author.Needs.{needs}
 use Rattle.jxl_turns.proofs.way_from.Statement.{statement}
 use Rattle.jxl_turns.proofs.way_from.Tie as tie

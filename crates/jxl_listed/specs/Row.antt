@@ -5,9 +5,9 @@ use Prim.Native.Nat.{ℕ, _+_}
 use lib.ListN.{drop}
 use Rattle.jxl_record.specs.declared.ContainerParser.{ContainerParser}
 use Rattle.jxl_joiner.specs.declared.MaybeEvent.{MaybeEvent}
-use Rattle.jxl_turns.specs.Turned.{Turned, over, turnOf}
-use Rattle.jxl_turns.specs.declared.TurnEnd.{TurnEnd}
-use Rattle.jxl_turns.specs.declared.TurnEnd.the-variants as TurnEnd
+use Rattle.jxl_listed.specs.Turned.{Turned, over, turnOf}
+use Rattle.jxl_listed.specs.declared.TurnEnd.{TurnEnd}
+use Rattle.jxl_listed.specs.declared.TurnEnd.the-variants as TurnEnd
 
 -- a turn, and what came behind it: its lines first, the bytes consumed counted from its start
 abbrev pub goesOn : Turned → Turned → Turned

@@ -3,10 +3,10 @@ use denote.Ref.{now}
 use Rattle.jxl_listing.specs.Lines.{text}
 use Rattle.jxl_listing.specs.Putting.{leaves}
 use Rattle.jxl_listing.specs.declared.Put.{Put}
-use Rattle.jxl_turns.proofs.Paste.{put-written, put-refused}
+use Rattle.jxl_list_file.proofs.Paste.{put-written, put-refused}
 use borrow.Author.Needs.{needs}
-use Rattle.jxl_turns.proofs.put.Statement.{statement}
-use Rattle.jxl_turns.proofs.put.Tie as tie
+use Rattle.jxl_list_file.proofs.put.Statement.{statement}
+use Rattle.jxl_list_file.proofs.put.Tie as tie
 
 put-line-requires : tie.Need-put-line-requires
 put-line-requires c κs = search needs

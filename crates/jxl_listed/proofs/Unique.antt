@@ -5,10 +5,10 @@ use Prim.Native.Nat.{ℕ}
 use lib.ListN.{length}
 use Rattle.jxl_record.specs.declared.ContainerParser.{ContainerParser}
 use Rattle.jxl_joiner.specs.declared.MaybeEvent.{MaybeEvent}
-use Rattle.jxl_turns.specs.Theorems.{OneListing, OneTurn}
-use Rattle.jxl_turns.specs.Turned.{Told}
-use Rattle.jxl_turns.specs.declared.AfterTurn.{AfterTurn}
-use Rattle.jxl_turns.specs.declared.TurnEnd.{TurnEnd}
+use Rattle.jxl_listed.specs.Theorems.{OneListing, OneTurn}
+use Rattle.jxl_listed.specs.Turned.{Told}
+use Rattle.jxl_listed.specs.declared.AfterTurn.{AfterTurn}
+use Rattle.jxl_listed.specs.declared.TurnEnd.{TurnEnd}
 
 pub one-listing : OneListing
 one-listing d w r q b c p e = let same = p ∙ sym e in (cc, cc)

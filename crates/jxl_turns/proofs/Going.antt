@@ -1,17 +1,14 @@
--- One turn, event by event.
+-- Within a turn: what stands in the buffer, and what is still to come.
 use mathlib.Core.Path.{_≡_, refl, sym, ap, _∙_, subst}
-use mathlib.Core.List.{List, [], _∷_, _++_, append-assoc, append-nil}
-use Prim.Native.Nat.{ℕ, suc, _+_, _-_, _^_, _<_, _≤_}
+use mathlib.Core.List.{List, [], _++_, append-nil}
+use Prim.Native.Nat.{ℕ, _+_, _-_, _^_, _<_, _≤_}
 use native.Mathlib.Omega.{arith}
-use lib.Dec.{leb, ltb}
 use lib.ListN.{length, take, drop}
 use lib.Seq.{drop-drop, length-take-le}
-use borrow.Author.Tests.{le-leb, lt-leb, lt-ltb, le-ltb}
-use Rattle.jxl_grammar.specs.Step.{Told, shows, stepOf}
+use Rattle.jxl_grammar.specs.Step.{shows, stepOf}
 use Rattle.jxl_events.specs.Event.{shifted}
 use Rattle.jxl_record.specs.declared.ContainerParser.{ContainerParser}
 use Rattle.jxl_events.specs.declared.ParseEvent.{ParseEvent}
-use Rattle.jxl_events.specs.declared.ParseEvent.the-variants as E
 use Rattle.jxl_joiner.specs.Joiner.{adding, handed}
 use Rattle.jxl_joiner.specs.declared.Added.{Added}
 use Rattle.jxl_joiner.specs.declared.MaybeEvent.{MaybeEvent}
@@ -19,43 +16,19 @@ use Rattle.jxl_joiner.specs.declared.Joiner.{Joiner}
 use Rattle.jxl_listing.specs.Putting.{Outcome, leaves, pasted, putOf}
 use Rattle.jxl_listing.specs.declared.Put.the-variants.{Written, NoRoom}
 use Rattle.jxl_listing.specs.declared.StopWord.{StopWord}
-use Rattle.jxl_turns.specs.Listed.{texts, nextIn, nextOf}
-use Rattle.jxl_turns.specs.Turned as Spec
-use Rattle.jxl_turns.specs.Turned.{Turned, over, behind, turnBy, turning, turnFrom, turnOf}
-use Rattle.jxl_turns.specs.declared.TurnEnd.{TurnEnd}
-use Rattle.jxl_turns.specs.declared.TurnEnd.the-variants as TurnEnd
-use Rattle.jxl_turns.specs.declared.AfterTurn.{AfterTurn}
-use Rattle.jxl_turns.specs.declared.AfterStep.the-variants as N
-use Rattle.jxl_turns.proofs.Text.{following-shown}
-use Rattle.jxl_turns.proofs.Paste.{front-put, put-was, put-was-not, take-pasted, drop-pasted, length-pasted}
-
--- the line of the event that a joiner hands back for the next one
-abbrev pub line : ℕ → MaybeEvent → ParseEvent → List ℕ
-line base h e = texts (handed (adding h (shifted base e) .out))
-
-abbrev pub held : ℕ → MaybeEvent → ParseEvent → MaybeEvent
-held base h e = adding h (shifted base e) .next .held
-
-module _ (base : ℕ) (s : List ℕ) (room : ℕ) (p : ContainerParser) (h : MaybeEvent) (k : ℕ) where
-  pub turn-shown : {e : ParseEvent} {q : ContainerParser} {m : ℕ} → k ≤ length s → nextOf p k (drop k s) ≡ N.Shown e q m → length (line base h e) ≤ room
-      → turnFrom base s room p h k ≡ behind (line base h e) (turnFrom base s (room - length (line base h e)) q (held base h e) m)
-  unfolding turning
-  turn-shown {e} {q} {m} i n f =
-      rw (n, turnBy, le-leb (length (line base h e)) room f, following-shown p s k i n .2)
-
-  pub turn-full : {e : ParseEvent} {q : ContainerParser} {m : ℕ} → nextOf p k (drop k s) ≡ N.Shown e q m → room < length (line base h e)
-      → turnFrom base s room p h k ≡ over TurnEnd.Full p h k
-  unfolding turning
-  turn-full {e} n f = rw (n, turnBy, lt-leb (length (line base h e)) room f)
-
-  pub turn-stopped : {w : StopWord} {q : ContainerParser} {m : ℕ} → nextOf p k (drop k s) ≡ N.Stopped w q m → turnFrom base s room p h k ≡ over (TurnEnd.Stopped w) q h m
-  unfolding turning
-  turn-stopped n = rw n
-
--- lines behind lines
-pub behind-behind : (a b : List ℕ) (t : Turned) → behind a (behind b t) ≡ behind (a ++ b) t
-behind-behind a b t =
-    ap (λ (l : List ℕ). record { lines = l; parser = t .parser; held = t .held; consumed = t .consumed; end = t .end }) (sym (append-assoc a b (t .lines)))
+use Rattle.jxl_listing.specs.declared.StopWord.the-variants as S
+use Rattle.jxl_listed.specs.Listed.{texts, nextIn, nextOf}
+use Rattle.jxl_listed.specs.Turned as Spec
+use Rattle.jxl_listed.specs.Turned.{Turned, Leads, over, behind, turnFrom, turnOf}
+use Rattle.jxl_listed.specs.declared.TurnEnd.{TurnEnd}
+use Rattle.jxl_listed.specs.declared.TurnEnd.the-variants as TurnEnd
+use Rattle.jxl_listed.specs.declared.AfterTurn.{AfterTurn}
+use Rattle.jxl_listed.specs.declared.AfterStep.the-variants as N
+use Rattle.jxl_listed.specs.declared.Way.{Way}
+use Rattle.jxl_listed.specs.declared.Way.the-variants as W
+use Rattle.jxl_listed.proofs.Text.{following-shown}
+use Rattle.jxl_listed.proofs.Turning.{line, held, turn-shown, turn-full, turn-stopped, behind-behind, shift-sum, turn-near}
+use Rattle.jxl_turns.proofs.Putting.{front-put, put-was, put-was-not, take-pasted, drop-pasted, length-pasted}
 
 -- the end of a turn, with its lines at the front of the buffer
 pub finish : (out buffer : List ℕ) (t : Turned) (r : AfterTurn) → r .written ≤ length out → drop (r .written) out ≡ drop (r .written) buffer
@@ -98,15 +71,6 @@ going-first base s buffer r k w e =
     } in
     subst (λ (m : ℕ). Going base s buffer all buffer (leaving (r .parser) (r .joiner) (r .consumed) m (r .end))) (sym w)
     (subst (λ (m : ℕ). Going base s buffer all buffer (leaving (r .parser) (r .joiner) m 0 (r .end))) (sym k) first)
-
--- an event moved on by a sum
-pub shift-sum : (b k : ℕ) (e : ParseEvent) → shifted (b + k) e ≡ shifted b (shifted k e)
-shift-sum b k (E.BitstreamKind x) = refl
-shift-sum b k E.NoMoreAuxBox = refl
-shift-sum b k (E.Codestream a n) = ap (λ (x : ℕ). E.Codestream x n) (omega arith)
-shift-sum b k (E.AuxBoxStart t c x) = refl
-shift-sum b k (E.AuxBoxData t a n) = ap (λ (x : ℕ). E.AuxBoxData t x n) (omega arith)
-shift-sum b k (E.AuxBoxEnd t) = refl
 
 -- the line of an event that was placed and added
 line-put : (base k : ℕ) (h : MaybeEvent) (e placed : ParseEvent) (added : Added) (out : List ℕ) (w : ℕ) {r : Outcome} → placed ≡ shifted (base + k) e → added ≡ adding h placed
@@ -174,12 +138,12 @@ module _ (base : ℕ) (s buffer : List ℕ) (all : Turned) (out : List ℕ) (r :
       (finish out buffer all (leaving q (r .joiner) m (r .written) (TurnEnd.Stopped x)) (g .room) (g .untouched)
       (g .told ∙ ap (behind (take (r .written) out)) (turn-stopped base s (length buffer - r .written) (r .parser) (r .joiner .held) (r .consumed) f)))
 
--- whether the input's place in the file fits
-module _ (base : ℕ) (s : List ℕ) (room : ℕ) (p : ContainerParser) (h : MaybeEvent) where
-  pub turn-near : base + length s < 2 ^ 64 → turnFrom base s room p h 0 ≡ turnOf base s room p h
-  unfolding turnOf
-  turn-near f = rw (turnOf, lt-ltb (base + length s) 18446744073709551616 f)
-
-  pub turn-too-far : 2 ^ 64 ≤ base + length s → over TurnEnd.TooFar p h 0 ≡ turnOf base s room p h
-  unfolding turnOf
-  turn-too-far f = rw (turnOf, le-ltb (base + length s) 18446744073709551616 f)
+-- the turn's answer where its input only makes the part held longer
+pub told-short : (base : ℕ) (s buffer : List ℕ) (p : ContainerParser) (h : MaybeEvent) (w : Way) {q : ContainerParser} {j : Joiner} {r : AfterTurn} → Leads w p h base (length s)
+    → w ≡ W.Short q j → base + length s < 2 ^ 64 → r ≡ leaving q j (length s) 0 (TurnEnd.Stopped S.Want)
+    → Spec.Told r buffer buffer (turnOf base s (length buffer) p h)
+told-short base s buffer p h w {q} {j} leads short near so =
+    let t = turnOf base s (length buffer) p h in
+    subst (λ (x : AfterTurn). Spec.Told x buffer buffer t) (sym so)
+    (finish buffer buffer t (leaving q j (length s) 0 (TurnEnd.Stopped S.Want)) (omega arith) refl
+    (sym (turn-near base s (length buffer) p h near) ∙ subst (λ (x : Way). Leads x p h base (length s)) short leads s (length buffer) refl))

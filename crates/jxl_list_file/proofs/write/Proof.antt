@@ -8,12 +8,12 @@ use borrow.Author.Needs.{needs}
 use Rattle.jxl_record.specs.declared.ContainerParser.{ContainerParser}
 use Rattle.jxl_listing.specs.Lines.{text}
 use Rattle.jxl_listing.specs.declared.Line.the-variants as L
-use Rattle.jxl_turns.specs.Listed.{fileText, nextOf}
-use Rattle.jxl_turns.specs.declared.AfterStep.the-variants as N
-use Rattle.jxl_turns.proofs.Text.{Rest, count, following-shown, following-stopped, rest-file}
-use Rattle.jxl_turns.proofs.Paste.{kept, line-fits, next-line, paste-all}
-use Rattle.jxl_turns.proofs.write.Statement.{statement}
-use Rattle.jxl_turns.proofs.write.Tie as tie
+use Rattle.jxl_listed.specs.Listed.{fileText, nextOf}
+use Rattle.jxl_listed.specs.declared.AfterStep.the-variants as N
+use Rattle.jxl_listed.proofs.Text.{Rest, count, following-shown, following-stopped, rest-file}
+use Rattle.jxl_list_file.proofs.Paste.{kept, line-fits, next-line, paste-all}
+use Rattle.jxl_list_file.proofs.write.Statement.{statement}
+use Rattle.jxl_list_file.proofs.write.Tie as tie
 
 abbrev Inv-loop : tie.InvT-loop
 Inv-loop file out₀ parser₀ at₀ written₀ out parser at written =

@@ -18,16 +18,16 @@ use Rattle.jxl_grammar.proofs.Taking.{takes, take-is}
 use Rattle.jxl_listing.specs.Lines.{printed}
 use Rattle.jxl_listing.specs.declared.StopWord.{StopWord}
 use Rattle.jxl_listing.specs.declared.StopWord.the-variants as S
-use Rattle.jxl_turns.specs.Theorems.{Feeds, HeldFits, TurnsGoOn, RowIsOneTurn, RowWithRoom, RowFeeds, RowEnds}
-use Rattle.jxl_turns.specs.Turned.{Turned, over, behind, turnOf}
-use Rattle.jxl_turns.specs.Row.{goesOn, rowBy, rowOf}
-use Rattle.jxl_turns.specs.declared.TurnEnd.{TurnEnd}
-use Rattle.jxl_turns.specs.declared.TurnEnd.the-variants as TurnEnd
-use Rattle.jxl_turns.proofs.Text.{count, taken-shown}
-use Rattle.jxl_turns.proofs.Turning.{behind-behind, shift-sum}
-use Rattle.jxl_turns.proofs.Goes.{lineOf, Goes, puts, lacks, waits, ends, inside, near-ends, went, comes, near-or-not, full-near, stopped-near}
-use Rattle.jxl_turns.proofs.Feeds.{whole-turn-feeds}
-use Rattle.jxl_turns.proofs.Full.{turn-keeps-fit, turn-advances}
+use Rattle.jxl_listed.specs.Theorems.{Feeds, HeldFits, TurnsGoOn, RowIsOneTurn, RowWithRoom, RowFeeds, RowEnds}
+use Rattle.jxl_listed.specs.Turned.{Turned, over, behind, turnOf}
+use Rattle.jxl_listed.specs.Row.{goesOn, rowBy, rowOf}
+use Rattle.jxl_listed.specs.declared.TurnEnd.{TurnEnd}
+use Rattle.jxl_listed.specs.declared.TurnEnd.the-variants as TurnEnd
+use Rattle.jxl_listed.proofs.Text.{count, taken-shown}
+use Rattle.jxl_listed.proofs.Turning.{behind-behind, shift-sum}
+use Rattle.jxl_listed.proofs.Goes.{lineOf, Goes, puts, lacks, waits, ends, inside, near-ends, went, comes, near-or-not, full-near, stopped-near}
+use Rattle.jxl_listed.proofs.Feeds.{whole-turn-feeds}
+use Rattle.jxl_listed.proofs.Full.{turn-keeps-fit, turn-advances}
 
 -- a turn whose input stands c bytes further on in another
 abbrev forward : ℕ → Turned → Turned

@@ -5,6 +5,8 @@ use Prim.Native.Nat.{ℕ, suc, _+_, _-_, _<_, _≤_, min}
 use native.Mathlib.Omega.{arith}
 use lib.ListN.{length, take, drop, length-append, length-drop}
 use lib.Seq.{take-all, drop-drop}
+use lib.Dec.{leb}
+use borrow.Author.Tests.{le-leb, lt-leb}
 use Rattle.jxl_grammar.specs.Laws.{Inside}
 use Rattle.jxl_headers.specs.Refusals.{Why}
 use Rattle.jxl_record.specs.Record.{fresh}
@@ -21,11 +23,13 @@ use Rattle.jxl_grammar.specs.Theorems.{listing}
 use Rattle.jxl_grammar.proofs.Taking.{takes, take-is}
 use Rattle.jxl_grammar.proofs.Theorems.{every-file, whole-feed}
 use Rattle.jxl_listing.specs.Lines.{printed, text}
+use Rattle.jxl_listing.specs.Putting.{leaves, pasted}
 use Rattle.jxl_listing.specs.declared.Line.the-variants as L
+use Rattle.jxl_listing.specs.declared.Put.the-variants.{Written, NoRoom}
 use Rattle.jxl_listing.specs.declared.StopWord.{StopWord}
 use Rattle.jxl_listing.specs.declared.StopWord.the-variants as S
-use Rattle.jxl_turns.specs.Listed.{texts, listingText, fileText, nextIn, nextOf, placeOf}
-use Rattle.jxl_turns.specs.declared.AfterStep.the-variants as N
+use Rattle.jxl_listed.specs.Listed.{texts, listingText, fileText, nextIn, nextOf, placeOf, listOf}
+use Rattle.jxl_listed.specs.declared.AfterStep.the-variants as N
 
 -- a payload's place lies inside the input too
 inside-place : (e : ParseEvent) (n : ℕ) → Inside e n → placeOf e ≤ n
@@ -107,12 +111,11 @@ pub rest-file : (f : List ℕ) → Rest fresh 0 f ≡ fileText f
 unfolding fileText
 rest-file f = ap listingText (sym (ap listing (whole-feed fresh 0 f)) ∙ every-file f)
 
--- a sum that saturates, one line further on
-pub one-line : (all rest line after total : ℕ) → rest ≡ line + after → rest ≤ all → total ≡ min (all - rest) 18446744073709551615
-    → (after ≤ all) × (min (total + line) 18446744073709551615 ≡ min (all - after) 18446744073709551615)
-one-line all rest line after total e h t = (omega arith, omega arith)
+-- a listing that fits, and one that does not
+pub list-fits : (d w : List ℕ) → length w ≤ length d → listOf d w ≡ leaves (Written (length w)) (pasted d 0 w)
+unfolding listOf
+list-fits d w h = rw (le-leb (length w) (length d) h)
 
--- and at the end
-pub last-line : (all rest line total : ℕ) → rest ≡ line → rest ≤ all → total ≡ min (all - rest) 18446744073709551615
-    → min (total + line) 18446744073709551615 ≡ min all 18446744073709551615
-last-line all rest line total e h t = omega arith
+pub list-refused : (d w : List ℕ) → length d < length w → listOf d w ≡ leaves (NoRoom (min (length w) 18446744073709551615)) d
+unfolding listOf
+list-refused d w h = rw (lt-leb (length w) (length d) h)

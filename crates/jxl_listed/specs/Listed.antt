@@ -17,8 +17,8 @@ use Rattle.jxl_listing.specs.declared.Line.the-variants as L
 use Rattle.jxl_listing.specs.declared.StopWord.{StopWord}
 use Rattle.jxl_listing.specs.declared.StopWord.the-variants as S
 use Rattle.jxl_listing.specs.declared.Put.the-variants.{Written, NoRoom}
-use Rattle.jxl_turns.specs.declared.AfterStep.{AfterStep}
-use Rattle.jxl_turns.specs.declared.AfterStep.the-variants as N
+use Rattle.jxl_listed.specs.declared.AfterStep.{AfterStep}
+use Rattle.jxl_listed.specs.declared.AfterStep.the-variants as N
 
 abbrev pub stopOf : G.Stop → StopWord
 stopOf G.want = S.Want

@@ -19,12 +19,12 @@ use Rattle.jxl_joiner.specs.declared.MaybeEvent.{MaybeEvent}
 use Rattle.jxl_listing.specs.Lines.{printed}
 use Rattle.jxl_listing.specs.declared.StopWord.{StopWord}
 use Rattle.jxl_listing.specs.declared.StopWord.the-variants as S
-use Rattle.jxl_turns.specs.Listed.{texts, nextIn, nextOf}
-use Rattle.jxl_turns.specs.Turned.{Turned, over, behind, turnFrom, turnOf}
-use Rattle.jxl_turns.specs.declared.TurnEnd.the-variants as TurnEnd
-use Rattle.jxl_turns.specs.declared.AfterStep.the-variants as N
-use Rattle.jxl_turns.proofs.Text.{count, taken-shown, shown-fits, wants-fits, refuses-fits}
-use Rattle.jxl_turns.proofs.Turning.{line, held, turn-shown, turn-full, turn-stopped, turn-near, turn-too-far}
+use Rattle.jxl_listed.specs.Listed.{texts, nextIn, nextOf}
+use Rattle.jxl_listed.specs.Turned.{Turned, over, behind, turnFrom, turnOf}
+use Rattle.jxl_listed.specs.declared.TurnEnd.the-variants as TurnEnd
+use Rattle.jxl_listed.specs.declared.AfterStep.the-variants as N
+use Rattle.jxl_listed.proofs.Text.{count, taken-shown, shown-fits, wants-fits, refuses-fits}
+use Rattle.jxl_listed.proofs.Turning.{line, held, turn-shown, turn-full, turn-stopped, turn-near, turn-too-far}
 
 -- the line of the event that a joiner hands back for the event e, if any
 abbrev pub lineOf : MaybeEvent → ParseEvent → List ℕ

@@ -5,11 +5,11 @@ use native.Mathlib.Omega.{arith}
 use denote.Ref.{now}
 use Rattle.jxl_listing.specs.Putting.{leaves}
 use Rattle.jxl_listing.specs.declared.Put.the-variants.{Written, NoRoom}
-use Rattle.jxl_turns.specs.Listed.{fileText}
-use Rattle.jxl_turns.proofs.Paste.{list-fits, list-refused}
+use Rattle.jxl_listed.specs.Listed.{fileText}
+use Rattle.jxl_listed.proofs.Text.{list-fits, list-refused}
 use borrow.Author.Needs.{needs}
-use Rattle.jxl_turns.proofs.list_file.Statement.{statement}
-use Rattle.jxl_turns.proofs.list_file.Tie as tie
+use Rattle.jxl_list_file.proofs.list_file.Statement.{statement}
+use Rattle.jxl_list_file.proofs.list_file.Tie as tie
 
 measure-requires : tie.Need-measure-requires
 measure-requires c κs = search needs

@@ -23,12 +23,12 @@ use Rattle.jxl_listing.specs.Lines.{text}
 use Rattle.jxl_listing.specs.declared.Line.the-variants as L
 use Rattle.jxl_listing.proofs.Numbers.{decimal-most, type-length}
 use Rattle.jxl_listing.proofs.Sizes.{most-bytes}
-use Rattle.jxl_turns.specs.Listed.{texts}
-use Rattle.jxl_turns.specs.Theorems.{FullMeansFull, HeldFits, TurnKeepsFit, TurnAdvances}
-use Rattle.jxl_turns.specs.Turned.{Turned, turnOf}
-use Rattle.jxl_turns.specs.declared.TurnEnd.the-variants as TurnEnd
-use Rattle.jxl_turns.proofs.Text.{shown-fits}
-use Rattle.jxl_turns.proofs.Goes.{lineOf, Goes, puts, lacks, waits, ends, went, near-or-not, full-near}
+use Rattle.jxl_listed.specs.Listed.{texts}
+use Rattle.jxl_listed.specs.Theorems.{FullMeansFull, HeldFits, TurnKeepsFit, TurnAdvances}
+use Rattle.jxl_listed.specs.Turned.{Turned, turnOf}
+use Rattle.jxl_listed.specs.declared.TurnEnd.the-variants as TurnEnd
+use Rattle.jxl_listed.proofs.Text.{shown-fits}
+use Rattle.jxl_listed.proofs.Goes.{lineOf, Goes, puts, lacks, waits, ends, went, near-or-not, full-near}
 
 -- a joiner hands back what it held, or nothing
 handed-back : (b : Bool) (x : ParseEvent) (a c : MaybeEvent) → length (texts (handed (if b (added None a) (added (Some x) c) .out))) ≤ length (texts (x ∷ []))

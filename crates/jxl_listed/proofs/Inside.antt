@@ -27,19 +27,15 @@ use Rattle.jxl_joiner.specs.Joiner.{added, adding, handed}
 use Rattle.jxl_joiner.specs.declared.Added.{Added}
 use Rattle.jxl_joiner.specs.declared.MaybeEvent.{MaybeEvent}
 use Rattle.jxl_joiner.specs.declared.MaybeEvent.the-variants.{None, Some}
-use Rattle.jxl_joiner.specs.declared.Joiner.{Joiner}
 use Rattle.jxl_grammar.proofs.Cut.{step-code}
 use Rattle.jxl_base.proofs.Never.{never}
 use Rattle.jxl_listing.specs.declared.StopWord.the-variants as S
-use Rattle.jxl_turns.specs.Listed.{texts}
-use Rattle.jxl_turns.specs.Turned as Spec
-use Rattle.jxl_turns.specs.Turned.{Turned, Leads, over, behind, turnFrom, turnOf}
-use Rattle.jxl_turns.specs.declared.AfterTurn.{AfterTurn}
-use Rattle.jxl_turns.specs.declared.TurnEnd.the-variants as TurnEnd
-use Rattle.jxl_turns.specs.declared.Way.{Way}
-use Rattle.jxl_turns.specs.declared.Way.the-variants as W
-use Rattle.jxl_turns.proofs.Goes.{lineOf, Goes, puts, waits, came-to}
-use Rattle.jxl_turns.proofs.Turning.{leaving, finish, turn-near}
+use Rattle.jxl_listed.specs.Listed.{texts}
+use Rattle.jxl_listed.specs.Turned.{Turned, Leads, over, behind, turnFrom}
+use Rattle.jxl_listed.specs.declared.TurnEnd.the-variants as TurnEnd
+use Rattle.jxl_listed.specs.declared.Way.{Way}
+use Rattle.jxl_listed.specs.declared.Way.the-variants as W
+use Rattle.jxl_listed.proofs.Goes.{lineOf, Goes, puts, waits, came-to}
 
 -- a payload of which something is left behind n bytes shows all of them
 part-goes-on : (j : JxlpIndexState) (k : BitstreamKind) (l : BytesLeft) (n : ℕ) → under 1 (less l n) ≡ false
@@ -116,13 +112,3 @@ pub leads-from : (w : Way) (p : ContainerParser) (n a len : ℕ) {base : ℕ} {h
 leads-from w p n a len {base} held part there leads =
     subst (λ (x : MaybeEvent). Leads w p x base n) (sym (held ∙ ap Some part))
     (subst (λ (x : ℕ). Leads w p (Some (E.Codestream a len)) x n) there leads)
-
--- the turn's answer then
-pub told-short : (base : ℕ) (s buffer : List ℕ) (p : ContainerParser) (h : MaybeEvent) (w : Way) {q : ContainerParser} {j : Joiner} {r : AfterTurn} → Leads w p h base (length s)
-    → w ≡ W.Short q j → base + length s < 2 ^ 64 → r ≡ leaving q j (length s) 0 (TurnEnd.Stopped S.Want)
-    → Spec.Told r buffer buffer (turnOf base s (length buffer) p h)
-told-short base s buffer p h w {q} {j} leads short near so =
-    let t = turnOf base s (length buffer) p h in
-    subst (λ (x : AfterTurn). Spec.Told x buffer buffer t) (sym so)
-    (finish buffer buffer t (leaving q j (length s) 0 (TurnEnd.Stopped S.Want)) (omega arith) refl
-    (sym (turn-near base s (length buffer) p h near) ∙ subst (λ (x : Way). Leads x p h base (length s)) short leads s (length buffer) refl))

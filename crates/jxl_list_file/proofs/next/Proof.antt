@@ -2,10 +2,10 @@ use mathlib.Core.Path.{ap}
 use native.Mathlib.Omega.{arith}
 use denote.Ref.{now}
 use Rattle.jxl_container.specs.Told.{told}
-use Rattle.jxl_turns.proofs.Text.{far, shown-fits, wants-fits, refuses-fits}
+use Rattle.jxl_listed.proofs.Text.{far, shown-fits, wants-fits, refuses-fits}
 use borrow.Author.Needs.{needs}
-use Rattle.jxl_turns.proofs.next.Statement.{statement}
-use Rattle.jxl_turns.proofs.next.Tie as tie
+use Rattle.jxl_list_file.proofs.next.Statement.{statement}
+use Rattle.jxl_list_file.proofs.next.Tie as tie
 
 sub-step : tie.Need-sub-step
 sub-step c = search needs

@@ -15,10 +15,10 @@ use Rattle.jxl_joiner.specs.declared.MaybeEvent.{MaybeEvent}
 use Rattle.jxl_joiner.specs.declared.MaybeEvent.the-variants.{None, Some}
 use Rattle.jxl_listing.specs.Putting.{leaves}
 use Rattle.jxl_listing.specs.declared.StopWord.{StopWord}
-use Rattle.jxl_turns.specs.Listed.{stopOf, texts, placeOf, listOf}
-use Rattle.jxl_turns.specs.Turned.{Turned, turnFrom, turnOf, Told}
-use Rattle.jxl_turns.specs.Row.{goesOn, rowOf}
-use Rattle.jxl_turns.specs.declared.TurnEnd.the-variants as TurnEnd
+use Rattle.jxl_listed.specs.Listed.{stopOf, texts, placeOf, listOf}
+use Rattle.jxl_listed.specs.Turned.{Turned, turnFrom, turnOf, Told}
+use Rattle.jxl_listed.specs.Row.{goesOn, rowOf}
+use Rattle.jxl_listed.specs.declared.TurnEnd.the-variants as TurnEnd
 
 -- events of an input that stands at `base` in the file
 abbrev pub allShifted : ℕ → List ParseEvent → List ParseEvent

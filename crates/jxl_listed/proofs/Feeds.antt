@@ -16,13 +16,13 @@ use Rattle.jxl_grammar.proofs.Taking.{take-is}
 use Rattle.jxl_listing.specs.Lines.{text}
 use Rattle.jxl_listing.specs.declared.Line.the-variants as L
 use Rattle.jxl_listing.specs.declared.StopWord.{StopWord}
-use Rattle.jxl_turns.specs.Listed.{stopOf, texts}
-use Rattle.jxl_turns.specs.Theorems.{allShifted, Feeds, TurnFeeds, WholeTurnFeeds}
-use Rattle.jxl_turns.specs.Turned.{Turned, over, behind}
-use Rattle.jxl_turns.specs.declared.TurnEnd.{TurnEnd}
-use Rattle.jxl_turns.specs.declared.TurnEnd.the-variants as TurnEnd
-use Rattle.jxl_turns.proofs.Text.{taken-shown}
-use Rattle.jxl_turns.proofs.Goes.{lineOf, heldThen, Goes, puts, lacks, waits, ends, goes, went, stopped-near}
+use Rattle.jxl_listed.specs.Listed.{stopOf, texts}
+use Rattle.jxl_listed.specs.Theorems.{allShifted, Feeds, TurnFeeds, WholeTurnFeeds}
+use Rattle.jxl_listed.specs.Turned.{Turned, over, behind}
+use Rattle.jxl_listed.specs.declared.TurnEnd.{TurnEnd}
+use Rattle.jxl_listed.specs.declared.TurnEnd.the-variants as TurnEnd
+use Rattle.jxl_listed.proofs.Text.{taken-shown}
+use Rattle.jxl_listed.proofs.Goes.{lineOf, heldThen, Goes, puts, lacks, waits, ends, goes, went, stopped-near}
 
 pub texts-append : (a b : List ParseEvent) → texts (a ++ b) ≡ texts a ++ texts b
 texts-append [] b = refl

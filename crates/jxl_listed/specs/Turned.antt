@@ -12,14 +12,14 @@ use Rattle.jxl_joiner.specs.Joiner.{adding, handed}
 use Rattle.jxl_joiner.specs.declared.MaybeEvent.{MaybeEvent}
 use Rattle.jxl_listing.specs.Putting.{pasted}
 use Rattle.jxl_listing.specs.declared.StopWord.the-variants as S
-use Rattle.jxl_turns.specs.Listed.{texts, nextOf}
-use Rattle.jxl_turns.specs.declared.TurnEnd.{TurnEnd}
-use Rattle.jxl_turns.specs.declared.TurnEnd.the-variants as TurnEnd
-use Rattle.jxl_turns.specs.declared.AfterTurn.{AfterTurn}
-use Rattle.jxl_turns.specs.declared.Way.{Way}
-use Rattle.jxl_turns.specs.declared.Way.the-variants as W
-use Rattle.jxl_turns.specs.declared.AfterStep.{AfterStep}
-use Rattle.jxl_turns.specs.declared.AfterStep.the-variants as N
+use Rattle.jxl_listed.specs.Listed.{texts, nextOf}
+use Rattle.jxl_listed.specs.declared.TurnEnd.{TurnEnd}
+use Rattle.jxl_listed.specs.declared.TurnEnd.the-variants as TurnEnd
+use Rattle.jxl_listed.specs.declared.AfterTurn.{AfterTurn}
+use Rattle.jxl_listed.specs.declared.Way.{Way}
+use Rattle.jxl_listed.specs.declared.Way.the-variants as W
+use Rattle.jxl_listed.specs.declared.AfterStep.{AfterStep}
+use Rattle.jxl_listed.specs.declared.AfterStep.the-variants as N
 
 -- the lines put, the record, the event held and the bytes of the input consumed then, and why the turn ended
 pub record Turned : Type 0 where

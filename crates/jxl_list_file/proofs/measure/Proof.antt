@@ -4,14 +4,15 @@ use native.Mathlib.Omega.{arith}
 use lib.ListN.{length, drop, length-append}
 use denote.Ref.{now}
 use borrow.Author.Needs.{needs}
-use Rattle.jxl_turns.specs.Listed.{fileText, nextOf}
+use Rattle.jxl_listed.specs.Listed.{fileText, nextOf}
 use Rattle.jxl_record.specs.declared.ContainerParser.{ContainerParser}
 use Rattle.jxl_listing.specs.Lines.{text}
 use Rattle.jxl_listing.specs.declared.Line.the-variants as L
-use Rattle.jxl_turns.specs.declared.AfterStep.the-variants as N
-use Rattle.jxl_turns.proofs.Text.{Rest, count, following-shown, following-stopped, rest-file, one-line, last-line}
-use Rattle.jxl_turns.proofs.measure.Statement.{statement}
-use Rattle.jxl_turns.proofs.measure.Tie as tie
+use Rattle.jxl_listed.specs.declared.AfterStep.the-variants as N
+use Rattle.jxl_listed.proofs.Text.{Rest, count, following-shown, following-stopped, rest-file}
+use Rattle.jxl_list_file.proofs.Paste.{one-line, last-line}
+use Rattle.jxl_list_file.proofs.measure.Statement.{statement}
+use Rattle.jxl_list_file.proofs.measure.Tie as tie
 
 abbrev Inv-loop : tie.InvT-loop
 Inv-loop file parser₀ at₀ total₀ parser at total =
