@@ -9,7 +9,7 @@ use lib.Dec.{leb, ltb, eqb}
 use lib.ListN.{length, drop}
 use lib.Seq.{drop-length}
 use borrow.Author.Tests.{lt-leb, lt-ltb, eq-eqb, ltb-true, ltb-false, eqb-true}
-use Rattle.jxl_headers.specs.Bytes.{and}
+use Rattle.jxl_headers.specs.Bytes.{if, and}
 use Rattle.jxl_headers.specs.Reach.{under, less}
 use Rattle.jxl_headers.specs.declared.BytesLeft.{BytesLeft}
 use Rattle.jxl_headers.specs.declared.BytesLeft.the-variants.{ToEnd, Bytes}
@@ -28,12 +28,12 @@ use Rattle.jxl_joiner.specs.declared.Added.{Added}
 use Rattle.jxl_joiner.specs.declared.MaybeEvent.{MaybeEvent}
 use Rattle.jxl_joiner.specs.declared.MaybeEvent.the-variants.{None, Some}
 use Rattle.jxl_grammar.proofs.Cut.{step-code}
-use Rattle.jxl_base.proofs.Never.{never}
 use Rattle.jxl_listing.specs.declared.StopWord.the-variants as S
 use Rattle.jxl_listed.specs.Listed.{texts}
-use Rattle.jxl_listed.specs.Turned.{Turned, Leads, over, behind, turnFrom}
+use Rattle.jxl_listed.specs.Turned.{Turned, over, behind, turnFrom}
 use Rattle.jxl_listed.specs.declared.TurnEnd.the-variants as TurnEnd
-use Rattle.jxl_listed.specs.declared.Way.{Way}
+use Rattle.jxl_listed.specs.Theorems.{WayLeads}
+use Rattle.jxl_listed.specs.Way.{wayBehind, wayOf, Leads}
 use Rattle.jxl_listed.specs.declared.Way.the-variants as W
 use Rattle.jxl_listed.proofs.Goes.{lineOf, Goes, puts, waits, came-to}
 
@@ -87,28 +87,39 @@ module _ (a len room : ℕ) (k : BitstreamKind) (l : BytesLeft) (j : JxlpIndexSt
       → turnFrom (a + len) s room (inCode k l false j) (Some (E.Codestream a len)) 0 ≡ then (length s)
   turn-inside s u f = came-to (a + len) s (omega arith) (goes-inside s u f)
 
--- what the code tests, and what it makes
-pub leads-on : (p : ContainerParser) (a len n : ℕ) {k : BitstreamKind} {l then : BytesLeft} {pending : Bool} → p .state ≡ D.InCodestream k l pending → pending ≡ false
-    → overIndex (p .jxlp) ≡ false → then ≡ less l n → under 1 then ≡ false → len + n < 2 ^ 64
-    → Leads (W.Short (inCode k then false (p .jxlp)) (record { held = Some (E.Codestream a (len + n)) })) p (Some (E.Codestream a len)) (a + len) n
-leads-on p a len n {k} {l} {then} st pd o th u f =
-    λ (s : List ℕ) (room : ℕ) (e : length s ≡ n).
-    ap (λ (x : DetectState). turnFrom (a + len) s room (at x (p .jxlp)) (Some (E.Codestream a len)) 0) (st ∙ ap (D.InCodestream k l) pd)
-    ∙ turn-inside a len room k l (p .jxlp) o s (ap (λ (x : ℕ). under 1 (less l x)) e ∙ ap (under 1) (sym th) ∙ u) (omega (arith, e, f))
-    ∙ ap (λ (x : ℕ). over (TurnEnd.Stopped S.Want) (inCode k (less l x) false (p .jxlp)) (Some (E.Codestream a (len + x))) x) e
-    ∙ ap (λ (x : BytesLeft). over (TurnEnd.Stopped S.Want) (inCode k x false (p .jxlp)) (Some (E.Codestream a (len + n))) n) (sym th)
+-- by what is looked at on the way
+module _ (base n a len : ℕ) (j : JxlpIndexState) where
+  behind-code : (k : BitstreamKind) (l : BytesLeft) (o u : Bool) → overIndex j ≡ o → under 1 (less l n) ≡ u → a + len ≡ base → len + n < 2 ^ 64
+      → Leads (if o W.Long (if u W.Long (W.Short (inCode k (less l n) false j) (record { held = Some (E.Codestream a (len + n)) })))) (inCode k l false j) (Some (E.Codestream a len)) base n
+  behind-code k l true u small left there f = tt
+  behind-code k l false true small left there f = tt
+  behind-code k l false false small left there f =
+      λ (s : List ℕ) (room : ℕ) (e : length s ≡ n).
+      ap (λ (x : ℕ). turnFrom x s room (inCode k l false j) (Some (E.Codestream a len)) 0) (sym there)
+      ∙ turn-inside a len room k l j small s (ap (λ (x : ℕ). under 1 (less l x)) e ∙ left) (omega (arith, e, f))
+      ∙ ap (λ (x : ℕ). over (TurnEnd.Stopped S.Want) (inCode k (less l x) false j) (Some (E.Codestream a (len + x))) x) e
 
-both : (t u : Bool) → and t u ≡ true → (t ≡ true) × (u ≡ true)
-both true u e = (refl, e)
-both false u e = never e
+  behind-part : (x : DetectState) → a + len ≡ base → len + n < 2 ^ 64 → Leads (wayBehind j a len n x) (at x j) (Some (E.Codestream a len)) base n
+  behind-part D.WaitingSignature there f = tt
+  behind-part D.WaitingBoxHeader there f = tt
+  behind-part (D.WaitingJxlpIndex l) there f = tt
+  behind-part (D.WaitingInnerType l) there f = tt
+  behind-part (D.InAuxBox t l) there f = tt
+  behind-part (D.InCodestream k l true) there f = tt
+  behind-part (D.InCodestream k l false) there f = behind-code k l (overIndex j) (under 1 (less l n)) refl refl there f
+  behind-part (D.Refused k r) there f = tt
 
-pub reach-is : (a len base n : ℕ) {r : Bool} → r ≡ and (eqb (a + len) base) (ltb (len + n) (2 ^ 64)) → r ≡ true → (a + len ≡ base) × (len + n < 2 ^ 64)
-reach-is a len base n e t =
-    let b = both (eqb (a + len) base) (ltb (len + n) 18446744073709551616) (sym e ∙ t) in
-    (eqb-true (a + len) base (b .0), ltb-true (len + n) 18446744073709551616 (b .1))
+  held-part : (x : DetectState) (t u : Bool) → eqb (a + len) base ≡ t → ltb (len + n) 18446744073709551616 ≡ u
+      → Leads (if (and t u) (wayBehind j a len n x) W.Long) (at x j) (Some (E.Codestream a len)) base n
+  held-part x true true there fits = behind-part x (eqb-true (a + len) base there) (ltb-true (len + n) 18446744073709551616 fits)
+  held-part x true false there fits = tt
+  held-part x false u there fits = tt
 
-pub leads-from : (w : Way) (p : ContainerParser) (n a len : ℕ) {base : ℕ} {h : MaybeEvent} {e : ParseEvent} → h ≡ Some e → e ≡ E.Codestream a len → a + len ≡ base
-    → Leads w p (Some (E.Codestream a len)) (a + len) n → Leads w p h base n
-leads-from w p n a len {base} held part there leads =
-    subst (λ (x : MaybeEvent). Leads w p x base n) (sym (held ∙ ap Some part))
-    (subst (λ (x : ℕ). Leads w p (Some (E.Codestream a len)) x n) there leads)
+pub way-leads : WayLeads
+way-leads p None base n = tt
+way-leads p (Some (E.BitstreamKind k)) base n = tt
+way-leads p (Some E.NoMoreAuxBox) base n = tt
+way-leads p (Some (E.Codestream a len)) base n = held-part base n a len (p .jxlp) (p .state) (eqb (a + len) base) (ltb (len + n) 18446744073709551616) refl refl
+way-leads p (Some (E.AuxBoxStart t b e)) base n = tt
+way-leads p (Some (E.AuxBoxData t a l)) base n = tt
+way-leads p (Some (E.AuxBoxEnd t)) base n = tt

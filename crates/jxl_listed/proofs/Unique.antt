@@ -3,15 +3,20 @@ use mathlib.Core.Path.{_≡_, sym, ap, _∙_}
 use mathlib.Core.List.{List}
 use Prim.Native.Nat.{ℕ}
 use lib.ListN.{length}
+use Rattle.jxl_base.proofs.OneAnswer.{one-named}
 use Rattle.jxl_record.specs.declared.ContainerParser.{ContainerParser}
 use Rattle.jxl_joiner.specs.declared.MaybeEvent.{MaybeEvent}
-use Rattle.jxl_listed.specs.Theorems.{OneListing, OneTurn}
+use Rattle.jxl_listed.specs.Theorems.{OneListing, OneWay, OneTurn}
 use Rattle.jxl_listed.specs.Turned.{Told}
+use Rattle.jxl_listed.specs.Way.{wayOf}
 use Rattle.jxl_listed.specs.declared.AfterTurn.{AfterTurn}
 use Rattle.jxl_listed.specs.declared.TurnEnd.{TurnEnd}
 
 pub one-listing : OneListing
 one-listing d w r q b c p e = let same = p ∙ sym e in (cc, cc)
+
+pub one-way : OneWay
+one-way p h base n = one-named (wayOf p h base n)
 
 abbrev answer : ContainerParser → MaybeEvent → ℕ → ℕ → TurnEnd → AfterTurn
 answer p h k w e = record { parser = p; joiner = record { held = h }; consumed = k; written = w; end = e }

@@ -3,7 +3,7 @@ use mathlib.Core.Path.{_≡_}
 use mathlib.Core.List.{List, [], _∷_, _++_}
 use Prim.Native.Nat.{ℕ, _+_, _^_, _<_, _≤_}
 use lib.ListN.{length, drop}
-use Rattle.jxl_base.specs.OneAnswer.{OneAnswerAndBuffer}
+use Rattle.jxl_base.specs.OneAnswer.{OneAnswer, OneAnswerAndBuffer}
 use Rattle.jxl_events.specs.Event.{shifted, lengthOf}
 use Rattle.jxl_record.specs.declared.ContainerParser.{ContainerParser}
 use Rattle.jxl_events.specs.declared.ParseEvent.{ParseEvent}
@@ -18,6 +18,7 @@ use Rattle.jxl_listing.specs.declared.StopWord.{StopWord}
 use Rattle.jxl_listed.specs.Listed.{stopOf, texts, placeOf, listOf}
 use Rattle.jxl_listed.specs.Turned.{Turned, turnFrom, turnOf, Told}
 use Rattle.jxl_listed.specs.Row.{goesOn, rowOf}
+use Rattle.jxl_listed.specs.Way.{wayOf, Leads}
 use Rattle.jxl_listed.specs.declared.TurnEnd.the-variants as TurnEnd
 
 -- events of an input that stands at `base` in the file
@@ -98,9 +99,16 @@ RowEnds =
     → All (λ r. 56 ≤ r) (room ∷ rooms) → length (events (Feeding.take p 0 s)) ≤ length (room ∷ rooms)
     → (w : StopWord) × (rowOf base s (room ∷ rooms) p h .end ≡ TurnEnd.Stopped w)
 
+-- every way leads to what the turn comes to
+abbrev pub WayLeads : Type 0
+WayLeads = (p : ContainerParser) (h : MaybeEvent) (base n : ℕ) → Leads (wayOf p h base n) p h base n
+
 -- one answer: each promise determines what its function gives, and the buffer that it leaves
 abbrev pub OneListing : Type 0
 OneListing = (d w : List ℕ) → OneAnswerAndBuffer (λ r b. leaves r b ≡ listOf d w)
+
+abbrev pub OneWay : Type 0
+OneWay = (p : ContainerParser) (h : MaybeEvent) (base n : ℕ) → OneAnswer (λ r. r ≡ wayOf p h base n)
 
 abbrev pub OneTurn : Type 0
 OneTurn = (buffer : List ℕ) (t : Turned) → OneAnswerAndBuffer (λ r b. Told r b buffer t)

@@ -11,13 +11,10 @@ use Rattle.jxl_grammar.specs.Feeding as Feeding
 use Rattle.jxl_joiner.specs.Joiner.{adding, handed}
 use Rattle.jxl_joiner.specs.declared.MaybeEvent.{MaybeEvent}
 use Rattle.jxl_listing.specs.Putting.{pasted}
-use Rattle.jxl_listing.specs.declared.StopWord.the-variants as S
 use Rattle.jxl_listed.specs.Listed.{texts, nextOf}
 use Rattle.jxl_listed.specs.declared.TurnEnd.{TurnEnd}
 use Rattle.jxl_listed.specs.declared.TurnEnd.the-variants as TurnEnd
 use Rattle.jxl_listed.specs.declared.AfterTurn.{AfterTurn}
-use Rattle.jxl_listed.specs.declared.Way.{Way}
-use Rattle.jxl_listed.specs.declared.Way.the-variants as W
 use Rattle.jxl_listed.specs.declared.AfterStep.{AfterStep}
 use Rattle.jxl_listed.specs.declared.AfterStep.the-variants as N
 
@@ -58,11 +55,6 @@ turnFrom base s room p h k = turning (suc (length (Feeding.take p k (drop k s) .
 unfoldable pub turnOf : ℕ → List ℕ → ℕ → ContainerParser → MaybeEvent → Turned
 turnOf base s room p h =
     elim (ltb (base + length s) (2 ^ 64)) [ true ↦ turnFrom base s room p h 0 | false ↦ over TurnEnd.TooFar p h 0 ]
-
--- what the short way through a turn claims: an input of n bytes inside the part held makes it longer, puts no line, and more is wanted
-abbrev pub Leads : Way → ContainerParser → MaybeEvent → ℕ → ℕ → Type 0
-Leads (W.Short q j) p h base n = (s : List ℕ) (room : ℕ) → length s ≡ n → turnFrom base s room p h 0 ≡ over (TurnEnd.Stopped S.Want) q (j .held) n
-Leads W.Long p h base n = Unit {0}
 
 -- what an answer of the code says, with the buffer then and before
 pub record Told (r : AfterTurn) (out buffer : List ℕ) (t : Turned) : Type 0 where

@@ -19,7 +19,8 @@ use Rattle.jxl_listing.specs.declared.StopWord.{StopWord}
 use Rattle.jxl_listing.specs.declared.StopWord.the-variants as S
 use Rattle.jxl_listed.specs.Listed.{texts, nextIn, nextOf}
 use Rattle.jxl_listed.specs.Turned as Spec
-use Rattle.jxl_listed.specs.Turned.{Turned, Leads, over, behind, turnFrom, turnOf}
+use Rattle.jxl_listed.specs.Turned.{Turned, over, behind, turnFrom, turnOf}
+use Rattle.jxl_listed.specs.Way.{Leads, wayOf}
 use Rattle.jxl_listed.specs.declared.TurnEnd.{TurnEnd}
 use Rattle.jxl_listed.specs.declared.TurnEnd.the-variants as TurnEnd
 use Rattle.jxl_listed.specs.declared.AfterTurn.{AfterTurn}
@@ -28,6 +29,7 @@ use Rattle.jxl_listed.specs.declared.Way.{Way}
 use Rattle.jxl_listed.specs.declared.Way.the-variants as W
 use Rattle.jxl_listed.proofs.Text.{following-shown}
 use Rattle.jxl_listed.proofs.Turning.{line, held, turn-shown, turn-full, turn-stopped, behind-behind, shift-sum, turn-near}
+use Rattle.jxl_listed.proofs.Inside.{way-leads}
 use Rattle.jxl_turns.proofs.Putting.{front-put, put-was, put-was-not, take-pasted, drop-pasted, length-pasted}
 
 -- the end of a turn, with its lines at the front of the buffer
@@ -139,11 +141,11 @@ module _ (base : ℕ) (s buffer : List ℕ) (all : Turned) (out : List ℕ) (r :
       (g .told ∙ ap (behind (take (r .written) out)) (turn-stopped base s (length buffer - r .written) (r .parser) (r .joiner .held) (r .consumed) f)))
 
 -- the turn's answer where its input only makes the part held longer
-pub told-short : (base : ℕ) (s buffer : List ℕ) (p : ContainerParser) (h : MaybeEvent) (w : Way) {q : ContainerParser} {j : Joiner} {r : AfterTurn} → Leads w p h base (length s)
+pub told-short : (base : ℕ) (s buffer : List ℕ) (p : ContainerParser) (h : MaybeEvent) (w : Way) {q : ContainerParser} {j : Joiner} {r : AfterTurn} → w ≡ wayOf p h base (length s)
     → w ≡ W.Short q j → base + length s < 2 ^ 64 → r ≡ leaving q j (length s) 0 (TurnEnd.Stopped S.Want)
     → Spec.Told r buffer buffer (turnOf base s (length buffer) p h)
-told-short base s buffer p h w {q} {j} leads short near so =
+told-short base s buffer p h w {q} {j} found short near so =
     let t = turnOf base s (length buffer) p h in
     subst (λ (x : AfterTurn). Spec.Told x buffer buffer t) (sym so)
     (finish buffer buffer t (leaving q j (length s) 0 (TurnEnd.Stopped S.Want)) (omega arith) refl
-    (sym (turn-near base s (length buffer) p h near) ∙ subst (λ (x : Way). Leads x p h base (length s)) short leads s (length buffer) refl))
+    (sym (turn-near base s (length buffer) p h near) ∙ subst (λ (x : Way). Leads x p h base (length s)) (sym found ∙ short) (way-leads p h base (length s)) s (length buffer) refl))

@@ -1,6 +1,5 @@
 // The work of one turn of a program that lists a stream.
 use jxl_container::ContainerParser;
-use jxl_container::DetectState;
 use jxl_container::ParseEvent;
 use jxl_container::StepResult;
 use jxl_joiner::Joiner;
@@ -11,16 +10,12 @@ use jxl_listing::Put;
 use jxl_listing::StopWord;
 ghost use mathlib.Core.Path.{_≡_};
 ghost use Prim.Native.Nat.{_+_, _^_, _≤_, _<_};
-ghost use lib.Dec.{eqb, ltb};
 ghost use lib.ListN.{length};
-ghost use Rattle.jxl_headers.specs.Bytes.{and};
 ghost use Rattle.jxl_events.specs.Event.{shifted};
 ghost use Rattle.jxl_listing.specs.Putting.{leaves, putOf};
 ghost use Rattle.jxl_listed.specs.Listed.{placeOf, texts};
-ghost use Rattle.jxl_listed.specs.Turned.{Told, Leads, turnFrom, turnOf};
+ghost use Rattle.jxl_listed.specs.Turned.{Told, turnFrom, turnOf};
 ghost use Rattle.jxl_joiner.specs.Joiner.{handed};
-ghost use Rattle.jxl_joiner.specs.declared.MaybeEvent.the-variants.{Some};
-ghost use Rattle.jxl_events.specs.declared.ParseEvent.the-variants.{Codestream};
 
 // What a turn leaves, and why it ended.
 pub use jxl_listed::AfterTurn;
@@ -143,81 +138,6 @@ fn anew(joiner: Joiner) -> Joiner
     }
 }
 
-// Whether `len` bytes at `at` end at `base`, and `n` bytes more fit.
-fn reaches(at: usize, len: usize, base: usize, n: usize) -> bool
-    ensures { λ r. ⌜ r ≡ and (eqb (at + len) base) (ltb (len + n) (2 ^ 64)) ⌝ }
-{
-    if base < at {
-        return false;
-    }
-    if base - at == len {
-        n <= 0xffff_ffff_ffff_ffff - len
-    } else {
-        false
-    }
-}
-
-// The way of a turn on `n` bytes behind the codestream part of `len` bytes at `at`.
-fn way_behind(parser: ContainerParser, at: usize, len: usize, n: usize) -> Way
-    requires { ⌜ len + n < 2 ^ 64 ⌝ }
-    ensures { λ r. ⌜ Leads r parser (Some (Codestream at len)) (at + len) n ⌝ }
-{
-    let state = parser.state;
-    let jxlp = parser.jxlp;
-    match state {
-        DetectState::InCodestream {
-            kind,
-            bytes_left: left,
-            pending_no_more_aux_box,
-        } => {
-            if pending_no_more_aux_box {
-                return Way::Long;
-            }
-            if jxlp.over_index() {
-                return Way::Long;
-            }
-            let then = left.less(n as u64);
-            if then.under(1) {
-                return Way::Long;
-            }
-            Way::Short {
-                parser: ContainerParser {
-                    state: DetectState::InCodestream {
-                        kind,
-                        bytes_left: then,
-                        pending_no_more_aux_box: false,
-                    },
-                    jxlp,
-                },
-                joiner: Joiner {
-                    held: MaybeEvent::Some(ParseEvent::Codestream { at, len: len + n }),
-                },
-            }
-        }
-        _ => Way::Long,
-    }
-}
-
-// The way of a turn on `n` bytes at `base`. Most turns on a large picture lie inside one payload.
-fn way_from(parser: ContainerParser, joiner: Joiner, base: usize, n: usize) -> Way
-    ensures { λ r. ⌜ Leads r parser (joiner .held) base n ⌝ }
-{
-    let held = joiner.held;
-    match held {
-        MaybeEvent::None => Way::Long,
-        MaybeEvent::Some(event) => match event {
-            ParseEvent::Codestream { at, len } => {
-                if reaches(at, len, base, n) {
-                    way_behind(parser, at, len, n)
-                } else {
-                    Way::Long
-                }
-            }
-            _ => Way::Long,
-        },
-    }
-}
-
 // One turn: the lines of the input's events, joined across turns, at the front of `out`. The input is the bytes left unread
 // and what was read behind them; it stands at `base` in the file.
 pub fn turn(
@@ -230,7 +150,7 @@ pub fn turn(
     ensures { λ r. ⌜ Told r (now (out .exit)) (now (out .entry)) (turnOf base (now (input .entry)) (length (now (out .entry))) parser (joiner .held)) ⌝ }
 {
     if base <= 0xffff_ffff_ffff_ffff - input.len() {
-        match way_from(parser, joiner, base, input.len()) {
+        match jxl_way::way(parser, joiner, base, input.len()) {
             Way::Short {
                 parser: next,
                 joiner: longer,

@@ -15,8 +15,8 @@ use Rattle.jxl_turns.proofs.turn.Tie as tie
 sub-if1 : tie.Need-sub-if1
 sub-if1 c = search needs
 
-way-from-requires : tie.Need-way-from-requires
-way-from-requires c κs = search needs
+way-requires : tie.Need-way-requires
+way-requires c κs = search needs
 
 enum-known-next : tie.Need-enum-known-next
 enum-known-next c = search needs
@@ -51,7 +51,7 @@ returns : tie.Need-returns
 returns c =
     let start = c .before .before .before .before .before .before .before .before in
     let a = start .args in
-    told-short (a .base) (now (a .input)) (now (a .out)) (a .parser) (a .joiner .held) (c .before .before .before .before .way-from .result) (c .before .before .before .before .way-from .ensures) (c .before .before .next .given .1)
+    told-short (a .base) (now (a .input)) (now (a .out)) (a .parser) (a .joiner .held) (c .before .before .before .before .way .result) (c .before .before .before .before .way .ensures) (c .before .before .next .given .1)
     (omega (arith, start .good .1 .1 .1 .0 .0)) (c .after .ensures)
 
 returns-2 : tie.Need-returns-2
@@ -78,5 +78,5 @@ returns-3 c =
 pub turn-spec : {M : Type 1} → statement M
 turn-spec =
     tie.close
-    (tie.spec sub-if1 way-from-requires enum-known-next after-requires enum-told anew-requires after-requires-2 turn-from-requires anew-requires-2 after-requires-3 returns
+    (tie.spec sub-if1 way-requires enum-known-next after-requires enum-told anew-requires after-requires-2 turn-from-requires anew-requires-2 after-requires-3 returns
     same-length returns-2 returns-3)

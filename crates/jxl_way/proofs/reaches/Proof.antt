@@ -4,8 +4,8 @@ use Prim.Native.Nat.{_+_}
 use borrow.Author.Tests.{eq-eqb, ne-eqb}
 use Rattle.jxl_base.proofs.Room.{room-for}
 use borrow.Author.Needs.{needs}
-use Rattle.jxl_turns.proofs.reaches.Statement.{statement}
-use Rattle.jxl_turns.proofs.reaches.Tie as tie
+use Rattle.jxl_way.proofs.reaches.Statement.{statement}
+use Rattle.jxl_way.proofs.reaches.Tie as tie
 
 returns : tie.Need-returns
 returns c =
