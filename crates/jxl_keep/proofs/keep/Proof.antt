@@ -6,9 +6,9 @@ use native.Mathlib.Omega.{arith}
 use lib.ListN.{length, take, drop, set, getD, length-set, length-drop}
 use lib.Seq.{paste, paste-zero}
 use denote.Ref.{now}
-use Rattle.jxl_stream.proofs.Moving.{ahead, front-more, all-moved}
-use Rattle.jxl_stream.proofs.keep.Statement.{statement}
-use Rattle.jxl_stream.proofs.keep.Tie as tie
+use Rattle.jxl_keep.proofs.Moving.{ahead, front-more, all-moved}
+use Rattle.jxl_keep.proofs.keep.Statement.{statement}
+use Rattle.jxl_keep.proofs.keep.Tie as tie
 
 abbrev Inv-loop : tie.InvT-loop
 Inv-loop buf₀ from upto end i₀ at₀ buf i at =

@@ -7,8 +7,8 @@ use native.Mathlib.Omega.{arith}
 use lib.ListN.{length, take, drop, set, getD, length-take, length-drop}
 use lib.Seq.{paste, paste-suc, drop-paste, getD-drop, take-all, take-take}
 use Rattle.jxl_listing.specs.Putting.{pasted}
-use Rattle.jxl_stream.specs.Kept.{kept}
-use Rattle.jxl_stream.specs.Theorems.{OneKeep}
+use Rattle.jxl_keep.specs.Kept.{kept}
+use Rattle.jxl_keep.specs.Theorems.{OneKeep}
 
 -- the next byte to move is not yet overwritten
 pub ahead : (d b : List ℕ) (from i at : ℕ) → i + from < length d → at ≡ from + i → b ≡ paste d 0 (drop from d) i → getD b at 0 ≡ getD (drop from d) i 0
