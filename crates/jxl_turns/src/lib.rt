@@ -68,11 +68,17 @@ fn after(
 }
 
 // The work of a turn on an input whose place fits. `t` is what it leaves if the next line has no room.
-fn turn_from(start: AfterTurn, base: usize, input: &[u8], out: &mut [u8]) -> AfterTurn
-    requires { ⌜ (start .consumed ≡ 0) × (start .written ≡ 0) × (start .end ≡ TurnEnd.Full) × (base + length (now input) < 2 ^ 64) ⌝ }
-    ensures { λ r. ⌜ Told r (now (out .exit)) (now (out .entry)) (turnFrom base (now (input .entry)) (length (now (out .entry))) (start .parser) (start .joiner .held) 0) ⌝ }
+fn turn_from(
+    parser: ContainerParser,
+    joiner: Joiner,
+    base: usize,
+    input: &[u8],
+    out: &mut [u8],
+) -> AfterTurn
+    requires { ⌜ base + length (now input) < 2 ^ 64 ⌝ }
+    ensures { λ r. ⌜ Told r (now (out .exit)) (now (out .entry)) (turnFrom base (now (input .entry)) (length (now (out .entry))) parser (joiner .held) 0) ⌝ }
 {
-    let mut t = start;
+    let mut t = after(parser, anew(joiner), 0, 0, TurnEnd::Full);
     loop {
         let p = t.parser;
         let j = t.joiner;
@@ -161,10 +167,7 @@ pub fn turn(
                 0,
                 TurnEnd::Stopped(StopWord::Want),
             ),
-            Way::Long => {
-                let start = after(parser, anew(joiner), 0, 0, TurnEnd::Full);
-                turn_from(start, base, input, out)
-            }
+            Way::Long => turn_from(parser, joiner, base, input, out),
         }
     } else {
         after(parser, anew(joiner), 0, 0, TurnEnd::TooFar)
