@@ -6,49 +6,12 @@ use jxl_listing::Line;
 use jxl_listing::Put;
 use jxl_listing::StopWord;
 use jxl_turns::TurnEnd;
-ghost use mathlib.Core.Path.{_≡_};
-ghost use Prim.Native.Nat.{min};
-ghost use lib.ListN.{length};
-ghost use Rattle.jxl_listing.specs.Putting.{pasted};
-ghost use Rattle.jxl_stream.specs.Kept.{kept};
 
 // What comes next: a turn on the bytes in the buffer, a read, or nothing.
 enum Next {
     Turn,
     Read,
     Nothing,
-}
-
-// Where a listing stands: the record, the joiner, the place in the file of the first byte not consumed, and where these bytes
-// lie in the buffer.
-struct Listing {
-    parser: ContainerParser,
-    joiner: Joiner,
-    base: usize,
-    from: usize,
-    upto: usize,
-    next: Next,
-}
-
-fn least(a: usize, b: usize) -> usize
-    ensures { λ r. ⌜ r ≡ min a b ⌝ }
-{
-    if a < b { a } else { b }
-}
-
-// Moves the bytes from `from` up to `upto` to the front of the buffer, and answers how many there are.
-pub fn keep(buf: &mut [u8], from: usize, upto: usize) -> usize
-    ensures { λ r. ⌜ (r ≡ length (kept from upto (now (buf .entry)))) × (now (buf .exit) ≡ pasted (now (buf .entry)) 0 (kept from upto (now (buf .entry)))) ⌝ }
-{
-    let end = least(upto, buf.len());
-    let mut i = 0;
-    let mut at = from;
-    while at < end {
-        buf[i] = buf[at];
-        i += 1;
-        at += 1;
-    }
-    i
 }
 
 // The bytes from `from` up to `upto`; none if they lie outside.
@@ -89,70 +52,36 @@ fn write_stop(joiner: Joiner, out: &mut [u8], stop: StopWord, consumed: usize) {
     }
 }
 
-// The listing with nothing left to do.
-fn over(l: Listing) -> Listing {
-    let parser = l.parser;
-    let joiner = l.joiner;
-    Listing {
-        parser,
-        joiner,
-        base: l.base,
-        from: l.from,
-        upto: l.upto,
-        next: Next::Nothing,
-    }
-}
-
-// Reads more behind the bytes not consumed, which move to the front. At the end of the input the rest is written.
-fn read_more(l: Listing, fd: i32, buf: &mut [u8], out: &mut [u8]) -> Listing {
-    let parser = l.parser;
-    let joiner = l.joiner;
-    let unread = keep(buf, l.from, l.upto);
+// Reads more behind the bytes not consumed, which move to the front, and answers how many bytes there are then. At the end of
+// the input the rest is written, and there are none.
+fn read_more(
+    joiner: Joiner,
+    base: usize,
+    fd: i32,
+    buf: &mut [u8],
+    from: usize,
+    upto: usize,
+    out: &mut [u8],
+) -> usize {
+    let unread = jxl_keep::keep(buf, from, upto);
     let got = libc::read(fd, &mut buf[unread..]);
     if got < 0 {
         os::fail(b"jxl-list: read");
         write_held(joiner, out);
-        return over(l);
+        return 0;
     }
     if got == 0 {
-        write_stop(joiner, out, StopWord::Want, l.base);
-        return over(l);
+        write_stop(joiner, out, StopWord::Want, base);
+        return 0;
     }
-    Listing {
-        parser,
-        joiner,
-        base: l.base,
-        from: 0,
-        upto: std::num::wrapping_add_usize(unread, io::count(got, buf)),
-        next: Next::Turn,
-    }
+    std::num::wrapping_add_usize(unread, io::count(got, buf))
 }
 
-// One turn, and its lines written. A write that fails ends the listing, and so does a refusal.
-fn take_turn(l: Listing, buf: &[u8], out: &mut [u8]) -> Listing {
-    let parser = l.parser;
-    let joiner = l.joiner;
-    let input = part(buf, l.from, l.upto);
-    let after = jxl_turns::turn(parser, joiner, l.base, input, out);
-    if !io::write_all(libc::STDOUT_FILENO, part(out, 0, after.written)) {
-        return over(l);
+// What follows a turn, whose lines are written first. A write that fails ends the listing.
+fn follow(joiner: Joiner, end: TurnEnd, written: usize, consumed: usize, out: &mut [u8]) -> Next {
+    if !io::write_all(libc::STDOUT_FILENO, part(out, 0, written)) {
+        return Next::Nothing;
     }
-    let then = after.parser;
-    let holds = after.joiner;
-    let end = after.end;
-    let base = std::num::wrapping_add_usize(l.base, after.consumed);
-    Listing {
-        parser: then,
-        joiner: holds,
-        base,
-        from: std::num::wrapping_add_usize(l.from, after.consumed),
-        upto: l.upto,
-        next: follow(holds, end, base, out),
-    }
-}
-
-// What follows a turn.
-fn follow(joiner: Joiner, end: TurnEnd, consumed: usize, out: &mut [u8]) -> Next {
     match end {
         TurnEnd::Full => Next::Turn,
         TurnEnd::Stopped(stop) => follow_stop(joiner, stop, consumed, out),
@@ -171,41 +100,37 @@ fn follow_stop(joiner: Joiner, stop: StopWord, consumed: usize, out: &mut [u8]) 
     }
 }
 
-// One turn, or one read.
-fn go_on(l: Listing, fd: i32, buf: &mut [u8], out: &mut [u8]) -> Listing {
-    let next = l.next;
-    match next {
-        Next::Turn => take_turn(l, buf, out),
-        Next::Read => read_more(l, fd, buf, out),
-        Next::Nothing => l,
-    }
-}
-
-// Whether nothing is left to do.
-fn is_over(l: Listing) -> bool {
-    let next = l.next;
-    match next {
-        Next::Turn => false,
-        Next::Read => false,
-        Next::Nothing => true,
-    }
-}
-
-// Lists what the descriptor gives, through the two buffers. A proved loop has to end, and nothing says that a stream does: the
-// loop counts its turns down from a number that no run uses up.
+// Lists what the descriptor gives, through the two buffers: `base` is the place in the file of the first byte not consumed, which
+// lies at `from` in the buffer. A proved loop has to end, and nothing says that a stream does: the loop counts its turns down from
+// a number that no run uses up.
 fn list_through(fd: i32, buf: &mut [u8], out: &mut [u8]) {
-    let mut l = Listing {
-        parser: ContainerParser::new(),
-        joiner: Joiner::new(),
-        base: 0,
-        from: 0,
-        upto: 0,
-        next: Next::Read,
-    };
+    let mut parser = ContainerParser::new();
+    let mut joiner = Joiner::new();
+    let mut base = 0;
+    let mut from = 0;
+    let mut upto = 0;
+    let mut next = Next::Read;
     let mut turns = u64::MAX;
-    while turns > 0 && !is_over(l) {
-        l = go_on(l, fd, buf, out);
+    while turns > 0 {
         turns -= 1;
+        match next {
+            Next::Turn => {
+                let input = part(buf, from, upto);
+                let after = jxl_turns::turn(parser, joiner, base, input, out);
+                parser = after.parser;
+                joiner = after.joiner;
+                base = std::num::wrapping_add_usize(base, after.consumed);
+                from = std::num::wrapping_add_usize(from, after.consumed);
+                let end = after.end;
+                next = follow(joiner, end, after.written, base, out);
+            }
+            Next::Read => {
+                upto = read_more(joiner, base, fd, buf, from, upto, out);
+                from = 0;
+                next = if upto == 0 { Next::Nothing } else { Next::Turn };
+            }
+            Next::Nothing => return,
+        }
     }
 }
 

@@ -1,9 +1,2 @@
-pub mod Text
-pub mod Paste
-pub mod Turning
-pub mod Goes
-pub mod Inside
-pub mod Feeds
-pub mod Full
-pub mod Rows
-pub mod Unique
+mod Putting
+mod Going

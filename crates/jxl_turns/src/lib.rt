@@ -1,41 +1,25 @@
-// The listing of a whole file in memory, and the work of one turn of a program that lists a stream.
+// The work of one turn of a program that lists a stream.
 use jxl_container::ContainerParser;
-use jxl_container::DetectState;
-use jxl_container::JxlpIndexState;
 use jxl_container::ParseEvent;
 use jxl_container::StepResult;
 use jxl_joiner::Joiner;
 use jxl_joiner::MaybeEvent;
+use jxl_listed::Way;
 use jxl_listing::Line;
 use jxl_listing::Put;
 use jxl_listing::StopWord;
 ghost use mathlib.Core.Path.{_≡_};
-ghost use Prim.Native.Nat.{_+_, _-_, _^_, _≤_, _<_, min};
-ghost use lib.Dec.{eqb, ltb};
-ghost use lib.ListN.{length, drop};
-ghost use Rattle.jxl_headers.specs.Bytes.{and};
+ghost use Prim.Native.Nat.{_+_, _^_, _≤_, _<_};
+ghost use lib.ListN.{length};
 ghost use Rattle.jxl_events.specs.Event.{shifted};
-ghost use Rattle.jxl_listing.specs.Lines.{text};
-ghost use Rattle.jxl_listing.specs.Putting.{leaves, pasted, putOf};
-ghost use Rattle.jxl_turns.specs.Listed.{fileText, listOf, nextOf, placeOf, texts};
-ghost use Rattle.jxl_turns.specs.Turned.{Told, Leads, turnFrom, turnOf};
+ghost use Rattle.jxl_listing.specs.Putting.{leaves, putOf};
+ghost use Rattle.jxl_listed.specs.Listed.{placeOf, texts};
+ghost use Rattle.jxl_listed.specs.Turned.{Told, turnFrom, turnOf};
 ghost use Rattle.jxl_joiner.specs.Joiner.{handed};
-ghost use Rattle.jxl_joiner.specs.declared.MaybeEvent.the-variants.{Some};
-ghost use Rattle.jxl_events.specs.declared.ParseEvent.the-variants.{Codestream};
 
-// What comes next: an event with its place in the file, or the stop; and the record and the place then.
-pub enum AfterStep {
-    Shown {
-        event: ParseEvent,
-        parser: ContainerParser,
-        at: usize,
-    },
-    Stopped {
-        stop: StopWord,
-        parser: ContainerParser,
-        at: usize,
-    },
-}
+// What a turn leaves, and why it ended.
+pub use jxl_listed::AfterTurn;
+pub use jxl_listed::TurnEnd;
 
 // The event with `base` added to its place.
 fn place(event: ParseEvent, base: usize) -> ParseEvent
@@ -51,149 +35,6 @@ fn place(event: ParseEvent, base: usize) -> ParseEvent
         },
         _ => event,
     }
-}
-
-// One step on the file from `at` on.
-fn next(parser: ContainerParser, file: &[u8], at: usize) -> AfterStep
-    requires { ⌜ at ≤ length (now file) ⌝ }
-    ensures { λ r. ⌜ r ≡ nextOf parser at (drop at (now (file .entry))) ⌝ }
-{
-    match jxl_container::step(parser, &file[at..]) {
-        StepResult::Shown {
-            event,
-            next,
-            consumed,
-        } => AfterStep::Shown {
-            event: place(event, at),
-            parser: next,
-            at: at + consumed,
-        },
-        StepResult::Want { next, consumed } => AfterStep::Stopped {
-            stop: StopWord::Want,
-            parser: next,
-            at: at + consumed,
-        },
-        StepResult::Refused {
-            refusal,
-            next,
-            consumed,
-        } => AfterStep::Stopped {
-            stop: StopWord::refused(refusal),
-            parser: next,
-            at: at + consumed,
-        },
-    }
-}
-
-// The sum, at most the largest number of 64 bits.
-fn add(a: usize, b: usize) -> usize
-    ensures { λ r. ⌜ r ≡ min (a + b) (2 ^ 64 - 1) ⌝ }
-{
-    if a <= 0xffff_ffff_ffff_ffff - b {
-        a + b
-    } else {
-        0xffff_ffff_ffff_ffff
-    }
-}
-
-// How many bytes the listing of the file has, at most the largest number of 64 bits.
-fn measure(file: &[u8]) -> usize
-    ensures { λ r. ⌜ r ≡ min (length (fileText (now (file .entry)))) (2 ^ 64 - 1) ⌝ }
-{
-    let mut parser = ContainerParser::new();
-    let mut at = 0;
-    let mut total = 0;
-    loop {
-        match next(parser, file, at) {
-            AfterStep::Shown {
-                event,
-                parser: then,
-                at: further,
-            } => {
-                total = add(total, jxl_listing::line_length(Line::Shown(event)));
-                parser = then;
-                at = further;
-            }
-            AfterStep::Stopped {
-                stop,
-                parser: _,
-                at: consumed,
-            } => {
-                return add(
-                    total,
-                    jxl_listing::line_length(Line::Stopped { stop, consumed }),
-                );
-            }
-        }
-    }
-}
-
-// Writes the listing of the file, for which there is room, and answers how many bytes it has.
-fn write(file: &[u8], out: &mut [u8]) -> usize
-    requires { ⌜ length (fileText (now file)) ≤ length (now out) ⌝ }
-    ensures { λ r. ⌜ (r ≡ length (fileText (now (file .entry)))) × (now (out .exit) ≡ pasted (now (out .entry)) 0 (fileText (now (file .entry)))) ⌝ }
-{
-    let mut parser = ContainerParser::new();
-    let mut at = 0;
-    let mut written = 0;
-    loop {
-        match next(parser, file, at) {
-            AfterStep::Shown {
-                event,
-                parser: then,
-                at: further,
-            } => {
-                written = put(out, written, Line::Shown(event));
-                parser = then;
-                at = further;
-            }
-            AfterStep::Stopped {
-                stop,
-                parser: _,
-                at: consumed,
-            } => {
-                return put(out, written, Line::Stopped { stop, consumed });
-            }
-        }
-    }
-}
-
-// Puts a line for which there is room, and answers where the next one goes.
-fn put(out: &mut [u8], at: usize, line: Line) -> usize
-    requires { ⌜ at + length (text line) ≤ length (now out) ⌝ }
-    ensures { λ r. ⌜ (r ≡ at + length (text line)) × (now (out .exit) ≡ pasted (now (out .entry)) at (text line)) ⌝ }
-{
-    match jxl_listing::put_line(out, at, line) {
-        Put::Written(next) => next,
-        Put::NoRoom(_) => at,
-    }
-}
-
-// The listing of a whole file in memory: all its lines at the front of `out`; or how much room they need, and `out` as it was.
-pub fn list_file(file: &[u8], out: &mut [u8]) -> Put
-    ensures { λ r. ⌜ leaves r (now (out .exit)) ≡ listOf (now (out .entry)) (fileText (now (file .entry))) ⌝ }
-{
-    let needed = measure(file);
-    if out.len() < needed {
-        return Put::NoRoom(needed);
-    }
-    Put::Written(write(file, out))
-}
-
-// Why a turn ended: the next line has no room; the parser wants more or refuses; the input's place passes 2^64 - 1.
-pub enum TurnEnd {
-    Full,
-    Stopped(StopWord),
-    TooFar,
-}
-
-// What a turn leaves: the record, the joiner, the bytes of the input consumed, and the bytes of lines written.
-pub struct AfterTurn {
-    pub parser: ContainerParser,
-    pub joiner: Joiner,
-    pub consumed: usize,
-    pub written: usize,
-    pub end: TurnEnd,
 }
 
 // Puts the line of an event that a joiner handed back, if it did.
@@ -227,11 +68,17 @@ fn after(
 }
 
 // The work of a turn on an input whose place fits. `t` is what it leaves if the next line has no room.
-fn turn_from(start: AfterTurn, base: usize, input: &[u8], out: &mut [u8]) -> AfterTurn
-    requires { ⌜ (start .consumed ≡ 0) × (start .written ≡ 0) × (start .end ≡ TurnEnd.Full) × (base + length (now input) < 2 ^ 64) ⌝ }
-    ensures { λ r. ⌜ Told r (now (out .exit)) (now (out .entry)) (turnFrom base (now (input .entry)) (length (now (out .entry))) (start .parser) (start .joiner .held) 0) ⌝ }
+fn turn_from(
+    parser: ContainerParser,
+    joiner: Joiner,
+    base: usize,
+    input: &[u8],
+    out: &mut [u8],
+) -> AfterTurn
+    requires { ⌜ base + length (now input) < 2 ^ 64 ⌝ }
+    ensures { λ r. ⌜ Told r (now (out .exit)) (now (out .entry)) (turnFrom base (now (input .entry)) (length (now (out .entry))) parser (joiner .held) 0) ⌝ }
 {
-    let mut t = start;
+    let mut t = after(parser, anew(joiner), 0, 0, TurnEnd::Full);
     loop {
         let p = t.parser;
         let j = t.joiner;
@@ -297,90 +144,6 @@ fn anew(joiner: Joiner) -> Joiner
     }
 }
 
-// What is left of a turn: nothing, since its input only makes the part held longer; or the whole of it.
-enum Way {
-    Short {
-        parser: ContainerParser,
-        joiner: Joiner,
-    },
-    Long,
-}
-
-// Whether `len` bytes at `at` end at `base`, and `n` bytes more fit.
-fn reaches(at: usize, len: usize, base: usize, n: usize) -> bool
-    ensures { λ r. ⌜ r ≡ and (eqb (at + len) base) (ltb (len + n) (2 ^ 64)) ⌝ }
-{
-    if base < at {
-        return false;
-    }
-    if base - at == len {
-        n <= 0xffff_ffff_ffff_ffff - len
-    } else {
-        false
-    }
-}
-
-// The way of a turn on `n` bytes behind the codestream part of `len` bytes at `at`.
-fn way_behind(parser: ContainerParser, at: usize, len: usize, n: usize) -> Way
-    requires { ⌜ len + n < 2 ^ 64 ⌝ }
-    ensures { λ r. ⌜ Leads r parser (Some (Codestream at len)) (at + len) n ⌝ }
-{
-    let state = parser.state;
-    let jxlp = parser.jxlp;
-    match state {
-        DetectState::InCodestream {
-            kind,
-            bytes_left: left,
-            pending_no_more_aux_box,
-        } => {
-            if pending_no_more_aux_box {
-                return Way::Long;
-            }
-            if jxlp.over_index() {
-                return Way::Long;
-            }
-            let then = left.less(n as u64);
-            if then.under(1) {
-                return Way::Long;
-            }
-            Way::Short {
-                parser: ContainerParser {
-                    state: DetectState::InCodestream {
-                        kind,
-                        bytes_left: then,
-                        pending_no_more_aux_box: false,
-                    },
-                    jxlp,
-                },
-                joiner: Joiner {
-                    held: MaybeEvent::Some(ParseEvent::Codestream { at, len: len + n }),
-                },
-            }
-        }
-        _ => Way::Long,
-    }
-}
-
-// The way of a turn on `n` bytes at `base`. Most turns on a large picture lie inside one payload.
-fn way_from(parser: ContainerParser, joiner: Joiner, base: usize, n: usize) -> Way
-    ensures { λ r. ⌜ Leads r parser (joiner .held) base n ⌝ }
-{
-    let held = joiner.held;
-    match held {
-        MaybeEvent::None => Way::Long,
-        MaybeEvent::Some(event) => match event {
-            ParseEvent::Codestream { at, len } => {
-                if reaches(at, len, base, n) {
-                    way_behind(parser, at, len, n)
-                } else {
-                    Way::Long
-                }
-            }
-            _ => Way::Long,
-        },
-    }
-}
-
 // One turn: the lines of the input's events, joined across turns, at the front of `out`. The input is the bytes left unread
 // and what was read behind them; it stands at `base` in the file.
 pub fn turn(
@@ -393,7 +156,7 @@ pub fn turn(
     ensures { λ r. ⌜ Told r (now (out .exit)) (now (out .entry)) (turnOf base (now (input .entry)) (length (now (out .entry))) parser (joiner .held)) ⌝ }
 {
     if base <= 0xffff_ffff_ffff_ffff - input.len() {
-        match way_from(parser, joiner, base, input.len()) {
+        match jxl_way::way(parser, joiner, base, input.len()) {
             Way::Short {
                 parser: next,
                 joiner: longer,
@@ -404,10 +167,7 @@ pub fn turn(
                 0,
                 TurnEnd::Stopped(StopWord::Want),
             ),
-            Way::Long => {
-                let start = after(parser, anew(joiner), 0, 0, TurnEnd::Full);
-                turn_from(start, base, input, out)
-            }
+            Way::Long => turn_from(parser, joiner, base, input, out),
         }
     } else {
         after(parser, anew(joiner), 0, 0, TurnEnd::TooFar)

@@ -2,7 +2,7 @@ use Prim.Native.Nat.{_≤_}
 use native.Mathlib.Omega.{arith}
 use lib.ListN.{length}
 use denote.Ref.{now}
-use Rattle.jxl_stream.proofs.Moving.{kept-fits}
+use Rattle.jxl_keep.proofs.Moving.{kept-fits}
 use borrow.Author.Needs.{needs}
 use Rattle.jxl_stream.proofs.read_more.Statement.{statement}
 use Rattle.jxl_stream.proofs.read_more.Tie as tie
@@ -12,13 +12,13 @@ keep-requires c κs = search needs
 
 sub-read : tie.Need-sub-read
 sub-read c =
-    let a = c .before .before .before .before .before .before .before .before .args in
-    omega (arith, c .before .before .keep .ensures .0, c .before .before .keep .kept .0, kept-fits (now (a .buf)) (a .l .from) (a .l .upto))
+    let a = c .before .before .before .before .before .before .args in
+    omega (arith, c .before .before .keep .ensures .0, c .before .before .keep .kept .0, kept-fits (now (a .buf)) (a .from) (a .upto))
 
 part-read-start : tie.Need-part-read-start
 part-read-start c =
-    let a = c .before .before .before .before .before .before .before .before .args in
-    let fits : c .before .before .keep .result ≤ length (c .before .before .keep .last .0) = omega (arith, c .before .before .keep .ensures .0, c .before .before .keep .kept .0, kept-fits (now (a .buf)) (a .l .from) (a .l .upto)) in
+    let a = c .before .before .before .before .before .before .args in
+    let fits : c .before .before .keep .result ≤ length (c .before .before .keep .last .0) = omega (arith, c .before .before .keep .ensures .0, c .before .before .keep .kept .0, kept-fits (now (a .buf)) (a .from) (a .upto)) in
     fits
 
 part-read-end : tie.Need-part-read-end
@@ -36,9 +36,6 @@ fail-requires c κs = search needs
 write-held-requires : tie.Need-write-held-requires
 write-held-requires c κs = search needs
 
-over-requires : tie.Need-over-requires
-over-requires c κs = search needs
-
 same-length : tie.Need-same-length
 same-length c = search needs
 
@@ -50,9 +47,6 @@ returns c = search needs
 
 write-stop-requires : tie.Need-write-stop-requires
 write-stop-requires c κs = search needs
-
-over-requires-2 : tie.Need-over-requires-2
-over-requires-2 c κs = search needs
 
 same-length-3 : tie.Need-same-length-3
 same-length-3 c = search needs
@@ -87,12 +81,10 @@ read-more-spec =
     slice-aggregate-fail
     fail-requires
     write-held-requires
-    over-requires
     same-length
     same-length-2
     returns
     write-stop-requires
-    over-requires-2
     same-length-3
     same-length-4
     returns-2

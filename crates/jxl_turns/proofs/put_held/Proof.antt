@@ -1,7 +1,7 @@
 use mathlib.Core.Path.{sym, _∙_}
 use mathlib.Core.List.{append-nil}
 use denote.Ref.{now}
-use Rattle.jxl_turns.proofs.Paste.{put-nothing}
+use Rattle.jxl_turns.proofs.Putting.{put-nothing}
 use borrow.Author.Needs.{needs}
 use Rattle.jxl_turns.proofs.put_held.Statement.{statement}
 use Rattle.jxl_turns.proofs.put_held.Tie as tie

@@ -4,19 +4,19 @@ use lib.ListN.{length}
 use denote.Ref.{now}
 use borrow.Author.Needs.{needs}
 use Rattle.jxl_joiner.specs.declared.Joiner.{Joiner}
-use Rattle.jxl_turns.specs.Turned.{Told, Turned, turnFrom, turnOf}
-use Rattle.jxl_turns.specs.declared.AfterTurn.{AfterTurn}
-use Rattle.jxl_turns.specs.declared.TurnEnd.the-variants as TurnEnd
-use Rattle.jxl_turns.proofs.Inside.{told-short}
-use Rattle.jxl_turns.proofs.Turning.{leaving, finish, turn-near, turn-too-far}
+use Rattle.jxl_listed.specs.Turned.{Told, Turned, turnOf}
+use Rattle.jxl_listed.specs.declared.AfterTurn.{AfterTurn}
+use Rattle.jxl_listed.specs.declared.TurnEnd.the-variants as TurnEnd
+use Rattle.jxl_turns.proofs.Going.{leaving, finish, told-short}
+use Rattle.jxl_listed.proofs.Turning.{turn-near, turn-too-far}
 use Rattle.jxl_turns.proofs.turn.Statement.{statement}
 use Rattle.jxl_turns.proofs.turn.Tie as tie
 
 sub-if1 : tie.Need-sub-if1
 sub-if1 c = search needs
 
-way-from-requires : tie.Need-way-from-requires
-way-from-requires c κs = search needs
+way-requires : tie.Need-way-requires
+way-requires c κs = search needs
 
 enum-known-next : tie.Need-enum-known-next
 enum-known-next c = search needs
@@ -34,15 +34,7 @@ after-requires-2 : tie.Need-after-requires-2
 after-requires-2 c κs = search needs
 
 turn-from-requires : tie.Need-turn-from-requires
-turn-from-requires c κs =
-    let e = c .before .after2 .ensures in
-    (ap (λ (r : AfterTurn). r .consumed) e, ap (λ (r : AfterTurn). r .written) e, ap (λ (r : AfterTurn). r .end) e, omega arith)
-
-anew-requires-2 : tie.Need-anew-requires-2
-anew-requires-2 c κs = search needs
-
-after-requires-3 : tie.Need-after-requires-3
-after-requires-3 c κs = search needs
+turn-from-requires c κs = omega arith
 
 same-length : tie.Need-same-length
 same-length c = search needs
@@ -51,19 +43,17 @@ returns : tie.Need-returns
 returns c =
     let start = c .before .before .before .before .before .before .before .before in
     let a = start .args in
-    told-short (a .base) (now (a .input)) (now (a .out)) (a .parser) (a .joiner .held) (c .before .before .before .before .way-from .result) (c .before .before .before .before .way-from .ensures) (c .before .before .next .given .1)
+    told-short (a .base) (now (a .input)) (now (a .out)) (a .parser) (a .joiner .held) (c .before .before .before .before .way .result) (c .before .before .before .before .way .ensures) (c .before .before .next .given .1)
     (omega (arith, start .good .1 .1 .1 .0 .0)) (c .after .ensures)
 
 returns-2 : tie.Need-returns-2
 returns-2 c =
-    let start = c .before .before .before .before .before .before .before .before .before .before .before .before in
+    let start = c .before .before .before .before .before .before .before .before .before .before in
     let a = start .args in
     let s = now (a .input) in
     let n = length (now (a .out)) in
-    subst (λ (t : Turned). Told (c .before .before .turn-from .result) (c .before .before .turn-from .last .1 .1 .1 .0) (now (a .out)) t)
-    (ap (λ (r : AfterTurn). turnFrom (a .base) s n (r .parser) (r .joiner .held) 0) (c .before .before .before .before .after2 .ensures)
-    ∙ ap (λ (j : Joiner). turnFrom (a .base) s n (a .parser) (j .held) 0) (c .before .before .before .before .before .anew .ensures)
-    ∙ turn-near (a .base) s n (a .parser) (a .joiner .held) (omega (arith, start .good .1 .1 .1 .0 .0)))
+    subst (λ (t : Turned). Told (c .before .before .turn-from .result) (c .before .before .turn-from .last .1 .1 .1 .1 .0) (now (a .out)) t)
+    (turn-near (a .base) s n (a .parser) (a .joiner .held) (omega (arith, start .good .1 .1 .1 .0 .0)))
     (c .before .before .turn-from .ensures)
 
 returns-3 : tie.Need-returns-3
@@ -71,12 +61,12 @@ returns-3 c =
     let a = c .before .before .before .before .before .args in
     let d = now (a .out) in
     let t = turnOf (a .base) (now (a .input)) (length d) (a .parser) (a .joiner .held) in
-    subst (λ (r : AfterTurn). Told r d d t) (sym (c .after3 .ensures ∙ ap (λ (j : Joiner). leaving (a .parser) j 0 0 TurnEnd.TooFar) (c .before .anew2 .ensures)))
+    subst (λ (r : AfterTurn). Told r d d t) (sym (c .after2 .ensures ∙ ap (λ (j : Joiner). leaving (a .parser) j 0 0 TurnEnd.TooFar) (c .before .anew .ensures)))
     (finish d d t (leaving (a .parser) (a .joiner) 0 0 TurnEnd.TooFar) (omega arith) refl
     (sym (turn-too-far (a .base) (now (a .input)) (length d) (a .parser) (a .joiner .held) (omega arith))))
 
 pub turn-spec : {M : Type 1} → statement M
 turn-spec =
     tie.close
-    (tie.spec sub-if1 way-from-requires enum-known-next after-requires enum-told anew-requires after-requires-2 turn-from-requires anew-requires-2 after-requires-3 returns
+    (tie.spec sub-if1 way-requires enum-known-next after-requires enum-told turn-from-requires anew-requires after-requires-2 returns
     same-length returns-2 returns-3)

@@ -1,0 +1,158 @@
+// The listing of a whole file in memory.
+use jxl_container::ContainerParser;
+use jxl_container::ParseEvent;
+use jxl_container::StepResult;
+use jxl_listed::AfterStep;
+use jxl_listing::Line;
+use jxl_listing::Put;
+use jxl_listing::StopWord;
+ghost use mathlib.Core.Path.{_≡_};
+ghost use Prim.Native.Nat.{_+_, _-_, _^_, _≤_, _<_, min};
+ghost use lib.ListN.{length, drop};
+ghost use Rattle.jxl_events.specs.Event.{shifted};
+ghost use Rattle.jxl_listing.specs.Lines.{text};
+ghost use Rattle.jxl_listing.specs.Putting.{leaves, pasted};
+ghost use Rattle.jxl_listed.specs.Listed.{fileText, listOf, nextOf, placeOf};
+
+// The event with `base` added to its place.
+fn place(event: ParseEvent, base: usize) -> ParseEvent
+    requires { ⌜ base + placeOf event < 2 ^ 64 ⌝ }
+    ensures { λ r. ⌜ r ≡ shifted base event ⌝ }
+{
+    match event {
+        ParseEvent::Codestream { at, len } => ParseEvent::Codestream { at: base + at, len },
+        ParseEvent::AuxBoxData { ty, at, len } => ParseEvent::AuxBoxData {
+            ty,
+            at: base + at,
+            len,
+        },
+        _ => event,
+    }
+}
+
+// One step on the file from `at` on.
+fn next(parser: ContainerParser, file: &[u8], at: usize) -> AfterStep
+    requires { ⌜ at ≤ length (now file) ⌝ }
+    ensures { λ r. ⌜ r ≡ nextOf parser at (drop at (now (file .entry))) ⌝ }
+{
+    match jxl_container::step(parser, &file[at..]) {
+        StepResult::Shown {
+            event,
+            next,
+            consumed,
+        } => AfterStep::Shown {
+            event: place(event, at),
+            parser: next,
+            at: at + consumed,
+        },
+        StepResult::Want { next, consumed } => AfterStep::Stopped {
+            stop: StopWord::Want,
+            parser: next,
+            at: at + consumed,
+        },
+        StepResult::Refused {
+            refusal,
+            next,
+            consumed,
+        } => AfterStep::Stopped {
+            stop: StopWord::refused(refusal),
+            parser: next,
+            at: at + consumed,
+        },
+    }
+}
+
+// The sum, at most the largest number of 64 bits.
+fn add(a: usize, b: usize) -> usize
+    ensures { λ r. ⌜ r ≡ min (a + b) (2 ^ 64 - 1) ⌝ }
+{
+    if a <= 0xffff_ffff_ffff_ffff - b {
+        a + b
+    } else {
+        0xffff_ffff_ffff_ffff
+    }
+}
+
+// How many bytes the listing of the file has, at most the largest number of 64 bits.
+fn measure(file: &[u8]) -> usize
+    ensures { λ r. ⌜ r ≡ min (length (fileText (now (file .entry)))) (2 ^ 64 - 1) ⌝ }
+{
+    let mut parser = ContainerParser::new();
+    let mut at = 0;
+    let mut total = 0;
+    loop {
+        match next(parser, file, at) {
+            AfterStep::Shown {
+                event,
+                parser: then,
+                at: further,
+            } => {
+                total = add(total, jxl_listing::line_length(Line::Shown(event)));
+                parser = then;
+                at = further;
+            }
+            AfterStep::Stopped {
+                stop,
+                parser: _,
+                at: consumed,
+            } => {
+                return add(
+                    total,
+                    jxl_listing::line_length(Line::Stopped { stop, consumed }),
+                );
+            }
+        }
+    }
+}
+
+// Writes the listing of the file, for which there is room, and answers how many bytes it has.
+fn write(file: &[u8], out: &mut [u8]) -> usize
+    requires { ⌜ length (fileText (now file)) ≤ length (now out) ⌝ }
+    ensures { λ r. ⌜ (r ≡ length (fileText (now (file .entry)))) × (now (out .exit) ≡ pasted (now (out .entry)) 0 (fileText (now (file .entry)))) ⌝ }
+{
+    let mut parser = ContainerParser::new();
+    let mut at = 0;
+    let mut written = 0;
+    loop {
+        match next(parser, file, at) {
+            AfterStep::Shown {
+                event,
+                parser: then,
+                at: further,
+            } => {
+                written = put(out, written, Line::Shown(event));
+                parser = then;
+                at = further;
+            }
+            AfterStep::Stopped {
+                stop,
+                parser: _,
+                at: consumed,
+            } => {
+                return put(out, written, Line::Stopped { stop, consumed });
+            }
+        }
+    }
+}
+
+// Puts a line for which there is room, and answers where the next one goes.
+fn put(out: &mut [u8], at: usize, line: Line) -> usize
+    requires { ⌜ at + length (text line) ≤ length (now out) ⌝ }
+    ensures { λ r. ⌜ (r ≡ at + length (text line)) × (now (out .exit) ≡ pasted (now (out .entry)) at (text line)) ⌝ }
+{
+    match jxl_listing::put_line(out, at, line) {
+        Put::Written(next) => next,
+        Put::NoRoom(_) => at,
+    }
+}
+
+// The listing of a whole file in memory: all its lines at the front of `out`; or how much room they need, and `out` as it was.
+pub fn list_file(file: &[u8], out: &mut [u8]) -> Put
+    ensures { λ r. ⌜ leaves r (now (out .exit)) ≡ listOf (now (out .entry)) (fileText (now (file .entry))) ⌝ }
+{
+    let needed = measure(file);
+    if out.len() < needed {
+        return Put::NoRoom(needed);
+    }
+    Put::Written(write(file, out))
+}

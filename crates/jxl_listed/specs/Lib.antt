@@ -1,0 +1,5 @@
+pub mod Listed
+pub mod Turned
+pub mod Row
+pub mod Way
+pub mod Theorems

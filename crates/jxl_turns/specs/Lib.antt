@@ -1,4 +1,0 @@
-pub mod Listed
-pub mod Turned
-pub mod Row
-pub mod Theorems
