@@ -6,7 +6,7 @@ use native.Mathlib.Nat.{zero-add}
 use native.Mathlib.Omega.{arith}
 use lib.ListN.{length, take, drop, set, getD, length-take, length-drop}
 use lib.Seq.{paste, paste-suc, drop-paste, getD-drop, take-all, take-take}
-use Rattle.jxl_listing.specs.Putting.{pasted}
+use Rattle.jxl_lines.specs.Pasting.{pasted}
 use Rattle.jxl_keep.specs.Kept.{kept}
 use Rattle.jxl_keep.specs.Theorems.{OneKeep}
 

@@ -4,7 +4,7 @@ use mathlib.Core.List.{List}
 use Prim.Native.Nat.{ℕ}
 use lib.ListN.{length}
 use Rattle.jxl_base.specs.OneAnswer.{OneAnswerAndBuffer}
-use Rattle.jxl_listing.specs.Putting.{pasted}
+use Rattle.jxl_lines.specs.Pasting.{pasted}
 use Rattle.jxl_keep.specs.Kept.{kept}
 
 abbrev pub OneKeep : Type 0

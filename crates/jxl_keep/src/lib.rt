@@ -2,7 +2,7 @@
 ghost use mathlib.Core.Path.{_≡_};
 ghost use Prim.Native.Nat.{min};
 ghost use lib.ListN.{length};
-ghost use Rattle.jxl_listing.specs.Putting.{pasted};
+ghost use Rattle.jxl_lines.specs.Pasting.{pasted};
 ghost use Rattle.jxl_keep.specs.Kept.{kept};
 
 // The lesser of the two.

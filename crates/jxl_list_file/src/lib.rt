@@ -2,16 +2,17 @@
 use jxl_container::ContainerParser;
 use jxl_container::ParseEvent;
 use jxl_container::StepResult;
+use jxl_lines::Line;
+use jxl_lines::StopWord;
 use jxl_listed::AfterStep;
-use jxl_listing::Line;
 use jxl_listing::Put;
-use jxl_listing::StopWord;
 ghost use mathlib.Core.Path.{_≡_};
 ghost use Prim.Native.Nat.{_+_, _-_, _^_, _≤_, _<_, min};
 ghost use lib.ListN.{length, drop};
 ghost use Rattle.jxl_events.specs.Event.{shifted};
-ghost use Rattle.jxl_listing.specs.Lines.{text};
-ghost use Rattle.jxl_listing.specs.Putting.{leaves, pasted};
+ghost use Rattle.jxl_lines.specs.Lines.{text};
+ghost use Rattle.jxl_lines.specs.Pasting.{pasted};
+ghost use Rattle.jxl_listing.specs.Putting.{leaves};
 ghost use Rattle.jxl_listed.specs.Listed.{fileText, listOf, nextOf, placeOf};
 
 // The event with `base` added to its place.
@@ -87,7 +88,7 @@ fn measure(file: &[u8]) -> usize
                 parser: then,
                 at: further,
             } => {
-                total = add(total, jxl_listing::line_length(Line::Shown(event)));
+                total = add(total, jxl_lengths::line_length(Line::Shown(event)));
                 parser = then;
                 at = further;
             }
@@ -98,7 +99,7 @@ fn measure(file: &[u8]) -> usize
             } => {
                 return add(
                     total,
-                    jxl_listing::line_length(Line::Stopped { stop, consumed }),
+                    jxl_lengths::line_length(Line::Stopped { stop, consumed }),
                 );
             }
         }

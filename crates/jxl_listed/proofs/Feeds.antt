@@ -13,9 +13,9 @@ use Rattle.jxl_grammar.specs.Grammar as G
 use Rattle.jxl_joiner.specs.Joiner.{adding, handed, run}
 use Rattle.jxl_joiner.specs.declared.MaybeEvent.{MaybeEvent}
 use Rattle.jxl_grammar.proofs.Taking.{take-is}
-use Rattle.jxl_listing.specs.Lines.{text}
-use Rattle.jxl_listing.specs.declared.Line.the-variants as L
-use Rattle.jxl_listing.specs.declared.StopWord.{StopWord}
+use Rattle.jxl_lines.specs.Lines.{text}
+use Rattle.jxl_lines.specs.declared.Line.the-variants as L
+use Rattle.jxl_lines.specs.declared.StopWord.{StopWord}
 use Rattle.jxl_listed.specs.Listed.{stopOf, texts}
 use Rattle.jxl_listed.specs.Theorems.{allShifted, Feeds, TurnFeeds, WholeTurnFeeds}
 use Rattle.jxl_listed.specs.Turned.{Turned, over, behind}

@@ -19,10 +19,10 @@ use Rattle.jxl_joiner.specs.Joiner.{added, adding, extends, handed}
 use Rattle.jxl_joiner.specs.Joined.{joins, longer}
 use Rattle.jxl_joiner.specs.declared.MaybeEvent.{MaybeEvent}
 use Rattle.jxl_joiner.specs.declared.MaybeEvent.the-variants.{None, Some}
-use Rattle.jxl_listing.specs.Lines.{text}
-use Rattle.jxl_listing.specs.declared.Line.the-variants as L
-use Rattle.jxl_listing.proofs.Numbers.{decimal-most, type-length}
-use Rattle.jxl_listing.proofs.Sizes.{most-bytes}
+use Rattle.jxl_lines.specs.Lines.{text}
+use Rattle.jxl_lines.specs.declared.Line.the-variants as L
+use Rattle.jxl_lines.proofs.Numbers.{decimal-most, type-length}
+use Rattle.jxl_lines.proofs.Sizes.{most-bytes}
 use Rattle.jxl_listed.specs.Listed.{texts}
 use Rattle.jxl_listed.specs.Theorems.{FullMeansFull, HeldFits, TurnKeepsFit, TurnAdvances}
 use Rattle.jxl_listed.specs.Turned.{Turned, turnOf}

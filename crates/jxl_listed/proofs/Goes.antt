@@ -16,9 +16,9 @@ use Rattle.jxl_events.specs.declared.ParseEvent.{ParseEvent}
 use Rattle.jxl_grammar.specs.Feeding.{Seen}
 use Rattle.jxl_joiner.specs.Joiner.{adding, handed}
 use Rattle.jxl_joiner.specs.declared.MaybeEvent.{MaybeEvent}
-use Rattle.jxl_listing.specs.Lines.{printed}
-use Rattle.jxl_listing.specs.declared.StopWord.{StopWord}
-use Rattle.jxl_listing.specs.declared.StopWord.the-variants as S
+use Rattle.jxl_lines.specs.Lines.{printed}
+use Rattle.jxl_lines.specs.declared.StopWord.{StopWord}
+use Rattle.jxl_lines.specs.declared.StopWord.the-variants as S
 use Rattle.jxl_listed.specs.Listed.{texts, nextIn, nextOf}
 use Rattle.jxl_listed.specs.Turned.{Turned, over, behind, turnFrom, turnOf}
 use Rattle.jxl_listed.specs.declared.TurnEnd.the-variants as TurnEnd

@@ -28,7 +28,7 @@ use Rattle.jxl_joiner.specs.declared.Added.{Added}
 use Rattle.jxl_joiner.specs.declared.MaybeEvent.{MaybeEvent}
 use Rattle.jxl_joiner.specs.declared.MaybeEvent.the-variants.{None, Some}
 use Rattle.jxl_grammar.proofs.Cut.{step-code}
-use Rattle.jxl_listing.specs.declared.StopWord.the-variants as S
+use Rattle.jxl_lines.specs.declared.StopWord.the-variants as S
 use Rattle.jxl_listed.specs.Listed.{texts}
 use Rattle.jxl_listed.specs.Turned.{Turned, over, behind, turnFrom}
 use Rattle.jxl_listed.specs.declared.TurnEnd.the-variants as TurnEnd

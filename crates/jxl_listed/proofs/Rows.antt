@@ -15,9 +15,9 @@ use Rattle.jxl_grammar.specs.Feeding as Feeding
 use Rattle.jxl_grammar.specs.Theorems.{All}
 use Rattle.jxl_joiner.specs.declared.MaybeEvent.{MaybeEvent}
 use Rattle.jxl_grammar.proofs.Taking.{takes, take-is}
-use Rattle.jxl_listing.specs.Lines.{printed}
-use Rattle.jxl_listing.specs.declared.StopWord.{StopWord}
-use Rattle.jxl_listing.specs.declared.StopWord.the-variants as S
+use Rattle.jxl_lines.specs.Lines.{printed}
+use Rattle.jxl_lines.specs.declared.StopWord.{StopWord}
+use Rattle.jxl_lines.specs.declared.StopWord.the-variants as S
 use Rattle.jxl_listed.specs.Theorems.{Feeds, HeldFits, TurnsGoOn, RowIsOneTurn, RowWithRoom, RowFeeds, RowEnds}
 use Rattle.jxl_listed.specs.Turned.{Turned, over, behind, turnOf}
 use Rattle.jxl_listed.specs.Row.{goesOn, rowBy, rowOf}

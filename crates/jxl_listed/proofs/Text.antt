@@ -22,12 +22,13 @@ use Rattle.jxl_grammar.specs.Grammar.{file}
 use Rattle.jxl_grammar.specs.Theorems.{listing}
 use Rattle.jxl_grammar.proofs.Taking.{takes, take-is}
 use Rattle.jxl_grammar.proofs.Theorems.{every-file, whole-feed}
-use Rattle.jxl_listing.specs.Lines.{printed, text}
-use Rattle.jxl_listing.specs.Putting.{leaves, pasted}
-use Rattle.jxl_listing.specs.declared.Line.the-variants as L
+use Rattle.jxl_lines.specs.Lines.{printed, text}
+use Rattle.jxl_lines.specs.Pasting.{pasted}
+use Rattle.jxl_listing.specs.Putting.{leaves}
+use Rattle.jxl_lines.specs.declared.Line.the-variants as L
 use Rattle.jxl_listing.specs.declared.Put.the-variants.{Written, NoRoom}
-use Rattle.jxl_listing.specs.declared.StopWord.{StopWord}
-use Rattle.jxl_listing.specs.declared.StopWord.the-variants as S
+use Rattle.jxl_lines.specs.declared.StopWord.{StopWord}
+use Rattle.jxl_lines.specs.declared.StopWord.the-variants as S
 use Rattle.jxl_listed.specs.Listed.{texts, listingText, fileText, nextIn, nextOf, placeOf, listOf}
 use Rattle.jxl_listed.specs.declared.AfterStep.the-variants as N
 

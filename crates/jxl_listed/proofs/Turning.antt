@@ -12,7 +12,7 @@ use Rattle.jxl_events.specs.declared.ParseEvent.{ParseEvent}
 use Rattle.jxl_events.specs.declared.ParseEvent.the-variants as E
 use Rattle.jxl_joiner.specs.Joiner.{adding, handed}
 use Rattle.jxl_joiner.specs.declared.MaybeEvent.{MaybeEvent}
-use Rattle.jxl_listing.specs.declared.StopWord.{StopWord}
+use Rattle.jxl_lines.specs.declared.StopWord.{StopWord}
 use Rattle.jxl_listed.specs.Listed.{texts, nextOf}
 use Rattle.jxl_listed.specs.Turned.{Turned, over, behind, turnBy, turning, turnFrom, turnOf}
 use Rattle.jxl_listed.specs.declared.TurnEnd.the-variants as TurnEnd

@@ -11,11 +11,12 @@ use Rattle.jxl_events.specs.declared.ParseEvent.{ParseEvent}
 use Rattle.jxl_events.specs.declared.ParseEvent.the-variants as E
 use Rattle.jxl_grammar.specs.Grammar.{Listing, file}
 use Rattle.jxl_grammar.specs.Grammar as G
-use Rattle.jxl_listing.specs.Lines.{printed, text}
-use Rattle.jxl_listing.specs.Putting.{Outcome, leaves, pasted}
-use Rattle.jxl_listing.specs.declared.Line.the-variants as L
-use Rattle.jxl_listing.specs.declared.StopWord.{StopWord}
-use Rattle.jxl_listing.specs.declared.StopWord.the-variants as S
+use Rattle.jxl_lines.specs.Lines.{printed, text}
+use Rattle.jxl_lines.specs.Pasting.{pasted}
+use Rattle.jxl_listing.specs.Putting.{Outcome, leaves}
+use Rattle.jxl_lines.specs.declared.Line.the-variants as L
+use Rattle.jxl_lines.specs.declared.StopWord.{StopWord}
+use Rattle.jxl_lines.specs.declared.StopWord.the-variants as S
 use Rattle.jxl_listing.specs.declared.Put.the-variants.{Written, NoRoom}
 use Rattle.jxl_listed.specs.declared.AfterStep.{AfterStep}
 use Rattle.jxl_listed.specs.declared.AfterStep.the-variants as N

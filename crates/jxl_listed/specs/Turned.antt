@@ -10,7 +10,7 @@ use Rattle.jxl_record.specs.declared.ContainerParser.{ContainerParser}
 use Rattle.jxl_grammar.specs.Feeding as Feeding
 use Rattle.jxl_joiner.specs.Joiner.{adding, handed}
 use Rattle.jxl_joiner.specs.declared.MaybeEvent.{MaybeEvent}
-use Rattle.jxl_listing.specs.Putting.{pasted}
+use Rattle.jxl_lines.specs.Pasting.{pasted}
 use Rattle.jxl_listed.specs.Listed.{texts, nextOf}
 use Rattle.jxl_listed.specs.declared.TurnEnd.{TurnEnd}
 use Rattle.jxl_listed.specs.declared.TurnEnd.the-variants as TurnEnd

@@ -17,7 +17,7 @@ use Rattle.jxl_events.specs.declared.ParseEvent.{ParseEvent}
 use Rattle.jxl_events.specs.declared.ParseEvent.the-variants as E
 use Rattle.jxl_joiner.specs.declared.MaybeEvent.{MaybeEvent}
 use Rattle.jxl_joiner.specs.declared.MaybeEvent.the-variants.{None, Some}
-use Rattle.jxl_listing.specs.declared.StopWord.the-variants as S
+use Rattle.jxl_lines.specs.declared.StopWord.the-variants as S
 use Rattle.jxl_listed.specs.Turned.{over, turnFrom}
 use Rattle.jxl_listed.specs.declared.TurnEnd.the-variants as TurnEnd
 use Rattle.jxl_listed.specs.declared.Way.{Way}

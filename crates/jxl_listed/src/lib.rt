@@ -2,7 +2,7 @@
 // and the code share; no function.
 use jxl_events::ParseEvent;
 use jxl_joiner::Joiner;
-use jxl_listing::StopWord;
+use jxl_lines::StopWord;
 use jxl_record::ContainerParser;
 
 // What comes next: an event with its place in the file, or the stop; and the record and the place then.

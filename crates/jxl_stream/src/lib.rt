@@ -2,9 +2,9 @@
 use jxl_container::ContainerParser;
 use jxl_joiner::Joiner;
 use jxl_joiner::MaybeEvent;
-use jxl_listing::Line;
+use jxl_lines::Line;
+use jxl_lines::StopWord;
 use jxl_listing::Put;
-use jxl_listing::StopWord;
 use jxl_turns::TurnEnd;
 
 // What comes next: a turn on the bytes in the buffer, a read, or nothing.

@@ -6,8 +6,8 @@ use denote.Ref.{now}
 use borrow.Author.Needs.{needs}
 use Rattle.jxl_listed.specs.Listed.{fileText, nextOf}
 use Rattle.jxl_record.specs.declared.ContainerParser.{ContainerParser}
-use Rattle.jxl_listing.specs.Lines.{text}
-use Rattle.jxl_listing.specs.declared.Line.the-variants as L
+use Rattle.jxl_lines.specs.Lines.{text}
+use Rattle.jxl_lines.specs.declared.Line.the-variants as L
 use Rattle.jxl_listed.specs.declared.AfterStep.the-variants as N
 use Rattle.jxl_listed.proofs.Text.{Rest, count, following-shown, following-stopped, rest-file}
 use Rattle.jxl_list_file.proofs.Paste.{one-line, last-line}

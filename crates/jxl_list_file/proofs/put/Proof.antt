@@ -1,6 +1,6 @@
 use mathlib.Core.Path.{_≡_, sym, ap, _∙_}
 use denote.Ref.{now}
-use Rattle.jxl_listing.specs.Lines.{text}
+use Rattle.jxl_lines.specs.Lines.{text}
 use Rattle.jxl_listing.specs.Putting.{leaves}
 use Rattle.jxl_listing.specs.declared.Put.{Put}
 use Rattle.jxl_list_file.proofs.Paste.{put-written, put-refused}

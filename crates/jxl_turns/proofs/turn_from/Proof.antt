@@ -12,7 +12,7 @@ use Rattle.jxl_grammar.specs.Feeding.{Seen}
 use Rattle.jxl_joiner.specs.declared.Joiner.{Joiner}
 use Rattle.jxl_listing.specs.Putting.{leaves}
 use Rattle.jxl_listing.specs.declared.Put.{Put}
-use Rattle.jxl_listing.specs.declared.StopWord.{StopWord}
+use Rattle.jxl_lines.specs.declared.StopWord.{StopWord}
 use Rattle.jxl_listed.specs.Listed.{nextIn}
 use Rattle.jxl_listed.specs.Turned.{Told, turnFrom}
 use Rattle.jxl_listed.specs.declared.AfterTurn.{AfterTurn}

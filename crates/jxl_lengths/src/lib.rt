@@ -1,0 +1,48 @@
+// How many bytes a line of the listing has.
+use jxl_events::ParseEvent;
+use jxl_lines::Line;
+use jxl_lines::StopWord;
+use jxl_record::BitstreamKind;
+ghost use mathlib.Core.Path.{_≡_};
+ghost use lib.ListN.{length};
+ghost use Rattle.jxl_lines.specs.Lines.{text};
+
+// The bytes of the line, counted and not written.
+pub fn line_length(line: Line) -> usize
+    ensures { λ r. ⌜ r ≡ length (text line) ⌝ }
+{
+    match line {
+        Line::Shown(event) => match event {
+            ParseEvent::BitstreamKind(kind) => match kind {
+                BitstreamKind::Unknown => 13,
+                BitstreamKind::BareCodestream => 10,
+                BitstreamKind::Container => 15,
+                BitstreamKind::Invalid => 13,
+            },
+            ParseEvent::NoMoreAuxBox => 7,
+            ParseEvent::Codestream { at, len } => 7
+                + jxl_digits::digits(at)
+                + jxl_digits::digits(len),
+            ParseEvent::AuxBoxStart {
+                ty: _,
+                brotli_compressed: brotli,
+                last_box: to_end,
+            } => {
+                if brotli {
+                    if to_end { 26 } else { 28 }
+                } else {
+                    if to_end { 27 } else { 29 }
+                }
+            }
+            ParseEvent::AuxBoxData { ty: _, at, len } => 16
+                + jxl_digits::digits(at)
+                + jxl_digits::digits(len),
+            ParseEvent::AuxBoxEnd { ty: _ } => 13,
+        },
+        Line::Stopped { stop, consumed } => match stop {
+            StopWord::Want => 11 + jxl_digits::digits(consumed),
+            StopWord::Refused1 => 15 + jxl_digits::digits(consumed),
+            StopWord::Refused2 => 15 + jxl_digits::digits(consumed),
+        },
+    }
+}

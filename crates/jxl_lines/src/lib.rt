@@ -1,0 +1,31 @@
+// The lines of the listing, as values. Their bytes stand in specs/Lines.antt; theorems on them in specs/Theorems.antt.
+use jxl_events::ParseEvent;
+use jxl_headers::BoxRefusal;
+ghost use mathlib.Core.Path.{_≡_};
+ghost use Rattle.jxl_headers.specs.Refusals.{why};
+ghost use Rattle.jxl_lines.specs.Lines.{printed};
+
+// Why a listing ends, as it is printed: more is wanted, or a refusal by its number in the paper.
+pub enum StopWord {
+    Want,
+    Refused1,
+    Refused2,
+}
+
+impl StopWord {
+    // What is printed of a refusal.
+    pub fn refused(refusal: BoxRefusal) -> StopWord
+        ensures { λ r. ⌜ r ≡ printed (why refusal) ⌝ }
+    {
+        match refusal {
+            BoxRefusal::InvalidBox => StopWord::Refused1,
+            BoxRefusal::ValidationFailed => StopWord::Refused2,
+        }
+    }
+}
+
+// One record of the listing: a joined event with its place in the file, or the stop with the bytes consumed.
+pub enum Line {
+    Shown(ParseEvent),
+    Stopped { stop: StopWord, consumed: usize },
+}
