@@ -21,9 +21,6 @@ slice-aggregate-answer c =
     let f = c .before .before .before .fill-bytes in
     sym (length-take-le (f .result) (f .last .0) (omega (arith, f .kept .0, f .ensures)))
 
-byte-at-requires : tie.Need-byte-at-requires
-byte-at-requires c κs = search needs
-
 answer-requires : tie.Need-answer-requires
 answer-requires c κs = search needs
 
@@ -41,7 +38,6 @@ run-spec =
     fill-bytes-requires
     array-share-prefix-bytes
     slice-aggregate-answer
-    byte-at-requires
     answer-requires
     same-length
     returns)
