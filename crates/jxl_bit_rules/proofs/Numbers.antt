@@ -3,13 +3,13 @@
 use mathlib.Core.List.{List, [], _∷_}
 use mathlib.Core.Path.{_≡_, refl, sym, ap, _∙_}
 use Prim.Native.Nat.{ℕ, zero, suc, _+_, _-_, _*_, _/_, _%_, _^_, _≤_, _<_}
-use native.Mathlib.Nat.{zero-div, div-one, one-mul}
+use native.Mathlib.Nat.{zero-div, div-one, one-mul, lt-of-lt-of-le, mod-lt}
 use native.Mathlib.Omega.{arith}
 use lib.Arith.{mod-mul}
 use lib.Bits.{bitAnd, and-mask}
 use lib.Dec.{lit<}
 use lib.ListN.{getD, drop}
-use lib.Pow.{shl-exact, shr-shr, field, mod-mod-pow}
+use lib.Pow.{shl-exact, shr-shr, field, mod-mod-pow, pow-pos, pow-mono}
 use Rattle.jxl_bit_rules.specs.Bits.{Bytes, number, bits}
 
 -- a byte, then the rest; beyond the end all is 0
@@ -82,3 +82,14 @@ one-at n small = shl-exact 1 n 64 (lit< tt) (omega arith) ∙ one-mul (2 ^ n)
 
 pub masked : (x n : ℕ) → n ≤ 32 → bitAnd x (1 * 2 ^ n % 2 ^ 64 - 1) ≡ x % 2 ^ n
 masked x n small = ap (λ (p : ℕ). bitAnd x (p - 1)) (one-at n small) ∙ and-mask x n
+
+-- the bits that a mask leaves of eight bytes, shifted down: up to 32, so they fit
+module _ (s : List ℕ) (h : Bytes s) (at n : ℕ) (small : n ≤ 32) (w : ℕ) (e : w ≡ number (drop (at / 8) s) % 2 ^ 64) where
+  pub looked : bitAnd (w / 2 ^ (at % 8)) (1 * 2 ^ n % 2 ^ 64 - 1) ≡ bits s at n
+  looked = masked (w / 2 ^ (at % 8)) n small ∙ ap (λ (x : ℕ). x / 2 ^ (at % 8) % 2 ^ n) e ∙ from-eight s h at n small
+
+pub masked-fits : (x n : ℕ) → n ≤ 32 → bitAnd x (1 * 2 ^ n % 2 ^ 64 - 1) < 2 ^ 32
+masked-fits x n small = rw (masked x n small) (lt-of-lt-of-le (mod-lt x (pow-pos n)) (pow-mono small))
+
+pub mask-there : (n : ℕ) → n ≤ 32 → 1 ≤ 1 * 2 ^ n % 2 ^ 64
+mask-there n small = rw (one-at n small) (pow-pos n)

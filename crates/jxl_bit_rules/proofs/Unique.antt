@@ -3,15 +3,16 @@
 use mathlib.Core.Bool.{cond}
 use mathlib.Core.List.{List}
 use mathlib.Core.Path.{_≡_, refl, sym, ap, _∙_}
-use Prim.Native.Nat.{ℕ}
+use Prim.Native.Nat.{ℕ, _/_, _%_, _^_}
 use lib.Dec.{eqb}
-use lib.ListN.{getD}
+use lib.ListN.{getD, drop}
 use Rattle.jxl_bit_rules.specs.Answer.{Answer, Field, gives, refuses}
+use Rattle.jxl_bit_rules.specs.Bits.{number}
 use Rattle.jxl_bit_rules.specs.Readers.{begin, read, peek, consume, skip, pad, bool}
 use Rattle.jxl_base.specs.OneAnswer.{OneAnswer}
 use Rattle.jxl_base.proofs.OneAnswer.{one-named, one-told}
 use Rattle.jxl_bit_rules.specs.Refusals.{eof, padding, float, enum, width, numbered, tells}
-use Rattle.jxl_bit_rules.specs.Theorems.{OneOf, OneBegin, OnePeekBits, OneReadBits, OneConsumeBits, OneSkipBits, OneZeroPadToByte, OneReadBool, OneNumReadBits}
+use Rattle.jxl_bit_rules.specs.Theorems.{OneOf, OneWindow, OneBegin, OnePeekBits, OneReadBits, OneConsumeBits, OneSkipBits, OneZeroPadToByte, OneReadBool, OneNumReadBits}
 use Rattle.jxl_bit_rules.specs.Told.{toldU32, toldBool, toldMoved}
 use Rattle.jxl_bit_rules.specs.declared.Moved.the-variants as M
 use Rattle.jxl_bit_rules.specs.declared.Moved.{Moved}
@@ -66,6 +67,9 @@ oneU32 f s at = unique toldU32 (back U32.Value U32.Refused) backU32 (f s at)
 
 oneMoved : (f : Field (Unit {0})) → OneOf toldMoved f
 oneMoved f s at = unique toldMoved (back (λ u. M.To) M.Refused) backMoved (f s at)
+
+pub one-window : OneWindow
+one-window s at = one-named (number (drop (at / 8) s) % 2 ^ 64)
 
 pub one-begin : OneBegin
 one-begin wide = oneMoved (begin wide)

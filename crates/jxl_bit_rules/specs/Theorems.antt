@@ -3,10 +3,10 @@
 use mathlib.Core.Bool.{Bool}
 use mathlib.Core.Path.{_≡_}
 use mathlib.Core.List.{List}
-use Prim.Native.Nat.{ℕ, suc, _+_, _-_, _*_, _^_, _≤_, _<_}
-use lib.ListN.{length}
+use Prim.Native.Nat.{ℕ, suc, _+_, _-_, _*_, _/_, _%_, _^_, _≤_, _<_}
+use lib.ListN.{length, drop}
 use Rattle.jxl_bit_rules.specs.Answer.{Answer, Field, gives, _>>=_, done}
-use Rattle.jxl_bit_rules.specs.Bits.{Bytes, bits, bit, end, start}
+use Rattle.jxl_bit_rules.specs.Bits.{Bytes, number, bits, bit, end, start}
 use Rattle.jxl_bit_rules.specs.Readers.{begin, read, peek, consume, skip, pad, bool}
 use Rattle.jxl_base.specs.OneAnswer.{OneAnswer}
 use Rattle.jxl_bit_rules.specs.Told.{toldU32, toldBool, toldMoved}
@@ -49,6 +49,9 @@ PeekConsume = (n : ℕ) (s : List ℕ) (at : ℕ) → (peek n >>= λ x. consume 
 -- of a field: whatever the bytes and the position
 abbrev pub OneOf : {R A : Type 0} → (R → Answer A) → Field A → Type 0
 OneOf told field = (s : List ℕ) (at : ℕ) → OneAnswer (λ r. told r ≡ field s at)
+
+abbrev pub OneWindow : Type 0
+OneWindow = (s : List ℕ) (at : ℕ) → OneAnswer (λ (r : ℕ). r ≡ number (drop (at / 8) s) % 2 ^ 64)
 
 abbrev pub OneBegin : Type 0
 OneBegin = (wide : Bool) → OneOf toldMoved (begin wide)

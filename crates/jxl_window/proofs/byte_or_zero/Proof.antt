@@ -3,8 +3,8 @@
 use mathlib.Core.Path.{sym}
 use borrow.Author.Needs.{needs}
 use lib.ListN.{List·getD-eq-default}
-use Rattle.jxl_reads.proofs.byte_or_zero.Statement.{statement}
-use Rattle.jxl_reads.proofs.byte_or_zero.Tie as tie
+use Rattle.jxl_window.proofs.byte_or_zero.Statement.{statement}
+use Rattle.jxl_window.proofs.byte_or_zero.Tie as tie
 
 shared-slice-read-result : tie.Need-shared-slice-read-result
 shared-slice-read-result c = search needs

@@ -1,10 +1,11 @@
 -- `window` meets its contract: eight bytes, read or 0 beyond the end, are the number up to 2 ^ 64.
 -- Assumes nothing.
 use mathlib.Core.Path.{_∙_, sym}
+use Prim.Native.Nat.{_/_}
 use borrow.Author.Needs.{needs}
 use Rattle.jxl_bit_rules.proofs.Numbers.{eight}
-use Rattle.jxl_reads.proofs.window.Statement.{statement}
-use Rattle.jxl_reads.proofs.window.Tie as tie
+use Rattle.jxl_window.proofs.window.Statement.{statement}
+use Rattle.jxl_window.proofs.window.Tie as tie
 
 add-if1 : tie.Need-add-if1
 add-if1 c = search needs
@@ -108,12 +109,12 @@ joined-requires-2 c κs = search needs
 returns : tie.Need-returns
 returns c =
     let a = c .before .before .before .before .before .before .before .before .before .before .before .args in
-    c .joined .ensures ∙ sym (eight (a .s .now) (λ i. c .before .before .before .before .before .before .before .before .before .before .shared-slice-known .given i .fits) (a .i))
+    c .joined .ensures ∙ sym (eight (a .s .now) (λ i. c .before .before .before .before .before .before .before .before .before .before .shared-slice-known .given i .fits) (a .at / 8))
 
 returns-2 : tie.Need-returns-2
 returns-2 c =
     let a = c .before .before .before .before .before .before .before .before .before .before .before .args in
-    cc (eight (a .s .now) (λ i. c .before .before .before .before .before .before .before .before .before .before .shared-slice-known .given i .fits) (a .i))
+    cc (eight (a .s .now) (λ i. c .before .before .before .before .before .before .before .before .before .before .shared-slice-known .given i .fits) (a .at / 8))
 
 pub window-spec : {M : Type 1} → statement M
 window-spec =
