@@ -23,6 +23,15 @@ pub struct Put {
     pub at: usize,
 }
 
+// What a call answers, as the list tells it: a number, an f32's bits, the place alone, a checksum alone, or a refusal.
+enum Answer {
+    Number(u64, usize),
+    Bits(u32, usize),
+    Place(usize),
+    Sum(u32, usize),
+    Refused(FieldRefusal, usize),
+}
+
 struct Choice {
     d: U32Specifier,
     next: usize,
@@ -37,34 +46,33 @@ fn put_place(from: usize, out: &mut [u8], at: usize) -> Put {
     }
 }
 
-fn put_refusal(out: &mut [u8], r: FieldRefusal, at: usize) -> Put {
+fn put_name(out: &mut [u8], r: FieldRefusal) -> usize {
     match r {
-        FieldRefusal::UnexpectedEof => put_place(put_bytes(out, 0, b"eof"), out, at),
-        FieldRefusal::NonZeroPadding => put_place(put_bytes(out, 0, b"pad"), out, at),
-        FieldRefusal::InvalidFloat => put_place(put_bytes(out, 0, b"float"), out, at),
+        FieldRefusal::UnexpectedEof => put_bytes(out, 0, b"eof"),
+        FieldRefusal::NonZeroPadding => put_bytes(out, 0, b"pad"),
+        FieldRefusal::InvalidFloat => put_bytes(out, 0, b"float"),
         FieldRefusal::InvalidEnum(v) => {
             let q = put_bytes(out, 0, b"enum ");
-            put_place(put_decimal(out, q, v as u64), out, at)
+            put_decimal(out, q, v as u64)
         }
-        FieldRefusal::Width => put_place(put_bytes(out, 0, b"width"), out, at),
-        FieldRefusal::TooLong => put_place(put_bytes(out, 0, b"long"), out, at),
+        FieldRefusal::Width => put_bytes(out, 0, b"width"),
+        FieldRefusal::TooLong => put_bytes(out, 0, b"long"),
     }
 }
 
-fn put_u32(out: &mut [u8], a: ReadU32) -> Put {
+fn put_answer(out: &mut [u8], a: Answer) -> Put {
     match a {
-        ReadU32::Value(v, p) => put_place(put_decimal(out, 0, v as u64), out, p),
-        ReadU32::Refused(r, p) => put_refusal(out, r, p),
-    }
-}
-
-fn put_moved(out: &mut [u8], a: Moved) -> Put {
-    match a {
-        Moved::To(p) => Put {
+        Answer::Number(v, p) => put_place(put_decimal(out, 0, v), out, p),
+        Answer::Bits(v, p) => put_place(put_hex8(out, 0, v), out, p),
+        Answer::Place(p) => Put {
             len: put_decimal(out, 0, p as u64),
             at: p,
         },
-        Moved::Refused(r, p) => put_refusal(out, r, p),
+        Answer::Sum(v, p) => Put {
+            len: put_hex8(out, 0, v),
+            at: p,
+        },
+        Answer::Refused(r, p) => put_place(put_name(out, r), out, p),
     }
 }
 
@@ -153,34 +161,45 @@ fn call_enum(s: &[u8], at: usize, line: &[u8]) -> ReadU32 {
     jxl_bitstream::read_enum(s, at, &list[..n])
 }
 
-// The call of a line. Those that are not named here put a checksum.
-fn answer(out: &mut [u8], s: &[u8], at: usize, line: &[u8]) -> Put {
-    let number = parse_decimal(line, 2);
-    let n = number.value as usize;
+fn number(a: ReadU32) -> Answer {
+    match a {
+        ReadU32::Value(v, p) => Answer::Number(v as u64, p),
+        ReadU32::Refused(r, p) => Answer::Refused(r, p),
+    }
+}
+
+fn place(a: Moved) -> Answer {
+    match a {
+        Moved::To(p) => Answer::Place(p),
+        Moved::Refused(r, p) => Answer::Refused(r, p),
+    }
+}
+
+// The call of a line. One that is not named here asks for a checksum.
+fn call(s: &[u8], at: usize, line: &[u8]) -> Answer {
+    let x = parse_decimal(line, 2);
+    let n = x.value as usize;
     match byte_at(line, 0) {
-        b'k' => put_u32(out, jxl_bitstream::peek_bits(s, at, n)),
-        b'r' => put_u32(out, jxl_bitstream::read_bits(s, at, n)),
-        b'c' => put_moved(out, jxl_bitstream::consume_bits(s, at, n)),
-        b's' => put_moved(out, jxl_bitstream::skip_bits(s, at, n)),
-        b'z' => put_moved(out, jxl_bitstream::zero_pad_to_byte(s, at)),
-        b'w' => put_u32(out, call_u32(s, at, line)),
-        b'e' => put_u32(out, call_enum(s, at, line)),
-        b'b' => match jxl_bitstream::read_bool(s, at) {
-            ReadBool::Value(v, p) => put_u32(out, ReadU32::Value(v as u32, p)),
-            ReadBool::Refused(r, p) => put_refusal(out, r, p),
-        },
+        b'k' => number(jxl_bitstream::peek_bits(s, at, n)),
+        b'r' => number(jxl_bitstream::read_bits(s, at, n)),
+        b'c' => place(jxl_bitstream::consume_bits(s, at, n)),
+        b's' => place(jxl_bitstream::skip_bits(s, at, n)),
+        b'z' => place(jxl_bitstream::zero_pad_to_byte(s, at)),
+        b'w' => number(call_u32(s, at, line)),
+        b'e' => number(call_enum(s, at, line)),
         b'q' => match jxl_bitstream::read_u64(s, at) {
-            ReadU64::Value(v, p) => put_place(put_decimal(out, 0, v), out, p),
-            ReadU64::Refused(r, p) => put_refusal(out, r, p),
+            ReadU64::Value(v, p) => Answer::Number(v, p),
+            ReadU64::Refused(r, p) => Answer::Refused(r, p),
+        },
+        b'b' => match jxl_bitstream::read_bool(s, at) {
+            ReadBool::Value(v, p) => Answer::Number(v as u64, p),
+            ReadBool::Refused(r, p) => Answer::Refused(r, p),
         },
         b'f' => match f16_bits(s, at) {
-            ReadU32::Value(v, p) => put_place(put_hex8(out, 0, v), out, p),
-            ReadU32::Refused(r, p) => put_refusal(out, r, p),
+            ReadU32::Value(v, p) => Answer::Bits(v, p),
+            ReadU32::Refused(r, p) => Answer::Refused(r, p),
         },
-        _ => Put {
-            len: put_hex8(out, 0, checksum((n % 64) as u32)),
-            at,
-        },
+        _ => Answer::Sum(checksum((n % 64) as u32), at),
     }
 }
 
@@ -207,5 +226,5 @@ fn fill_bytes(bytes: &mut [u8], line: &[u8]) -> usize
 pub fn run(buffer: &[u8], at: usize, line: &[u8], out: &mut [u8]) -> Put {
     let mut bytes = [0u8; 32];
     let n = fill_bytes(&mut bytes, buffer);
-    answer(out, &bytes[..n], at, line)
+    put_answer(out, call(&bytes[..n], at, line))
 }

@@ -41,7 +41,9 @@ sub-if1 c =
     search needs
 
 look-requires : tie.Need-look-requires
-look-requires c κs = begun-here (c .before)
+look-requires c κs =
+    let h = begun-here (c .before) in
+    search needs
 
 add-t16 : tie.Need-add-t16
 add-t16 c =
