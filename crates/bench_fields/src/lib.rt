@@ -7,20 +7,12 @@ use jxl_bitstream::ReadF16;
 use jxl_bitstream::ReadU32;
 use jxl_bitstream::ReadU64;
 use jxl_bitstream::U32Specifier;
+use std::num::wrapping_add_u64;
 
 // The numbers of the transfer functions.
 const TRANSFER: [u32; 7] = [1, 2, 8, 13, 16, 17, 18];
 // The numbers of the colour spaces.
 const COLOUR: [u32; 4] = [0, 1, 2, 3];
-
-fn add(a: u64, b: u64) -> u64 {
-    std::num::wrapping_add_u64(a, b)
-}
-
-// The width after `width`: 1 to `most` in turn.
-fn wider(width: usize, most: usize) -> usize {
-    if width < most { width + 1 } else { 1 }
-}
 
 // `read_bits` of 1 to 32 bits in turn.
 #[no_mangle]
@@ -33,9 +25,9 @@ pub extern "C" fn bench_read_bits(s: &[u8], count: u64) -> u64 {
         let ReadU32::Value(x, next) = jxl_bitstream::read_bits(s, at, width) else {
             return sum;
         };
-        sum = add(sum, x as u64);
+        sum = wrapping_add_u64(sum, x as u64);
         at = next;
-        width = wider(width, 32);
+        width = if width < 32 { width + 1 } else { 1 };
         i += 1;
     }
     sum
@@ -55,9 +47,9 @@ pub extern "C" fn bench_peek(s: &[u8], count: u64) -> u64 {
         let Moved::To(next) = jxl_bitstream::consume_bits(s, here, width) else {
             return sum;
         };
-        sum = add(sum, x as u64);
+        sum = wrapping_add_u64(sum, x as u64);
         at = next;
-        width = wider(width, 32);
+        width = if width < 32 { width + 1 } else { 1 };
         i += 1;
     }
     sum
@@ -74,9 +66,9 @@ pub extern "C" fn bench_skip(s: &[u8], count: u64) -> u64 {
         let Moved::To(next) = jxl_bitstream::skip_bits(s, at, width) else {
             return sum;
         };
-        sum = add(sum, next as u64);
+        sum = wrapping_add_u64(sum, next as u64);
         at = next;
-        width = wider(width, 128);
+        width = if width < 128 { width + 1 } else { 1 };
         i += 1;
     }
     sum
@@ -92,7 +84,7 @@ pub extern "C" fn bench_bool(s: &[u8], count: u64) -> u64 {
         let ReadBool::Value(x, next) = jxl_bitstream::read_bool(s, at) else {
             return sum;
         };
-        sum = add(sum, x as u64);
+        sum = wrapping_add_u64(sum, x as u64);
         at = next;
         i += 1;
     }
@@ -115,7 +107,7 @@ pub extern "C" fn bench_u32(s: &[u8], count: u64) -> u64 {
         let ReadU32::Value(x, next) = jxl_bitstream::read_u32(s, at, choices) else {
             return sum;
         };
-        sum = add(sum, x as u64);
+        sum = wrapping_add_u64(sum, x as u64);
         at = next;
         i += 1;
     }
@@ -132,7 +124,7 @@ pub extern "C" fn bench_u64(s: &[u8], count: u64) -> u64 {
         let ReadU64::Value(x, next) = jxl_bitstream::read_u64(s, at) else {
             return sum;
         };
-        sum = add(sum, x);
+        sum = wrapping_add_u64(sum, x);
         at = next;
         i += 1;
     }
@@ -150,7 +142,7 @@ pub extern "C" fn bench_enum(s: &[u8], count: u64) -> u64 {
         let ReadU32::Value(x, next) = jxl_bitstream::read_enum(s, at, &list) else {
             return sum;
         };
-        sum = add(sum, x as u64);
+        sum = wrapping_add_u64(sum, x as u64);
         at = next;
         i += 1;
     }
@@ -194,8 +186,11 @@ fn size_header(s: &[u8], at: usize) -> ReadU64 {
     let ReadU32::Value(width, d) = jxl_bitstream::read_u32(s, c, choices) else {
         return ReadU64::Refused(FieldRefusal::UnexpectedEof, c);
     };
-    let sides = add(height as u64, width as u64);
-    ReadU64::Value(add(sides, add(small as u64, ratio as u64)), d)
+    let sides = wrapping_add_u64(height as u64, width as u64);
+    ReadU64::Value(
+        wrapping_add_u64(sides, wrapping_add_u64(small as u64, ratio as u64)),
+        d,
+    )
 }
 
 // What may follow: an orientation of 3 bits, a depth, a colour space, a brightness, extensions. The sum of all but the
@@ -223,9 +218,15 @@ fn metadata(s: &[u8], at: usize) -> ReadU64 {
     let ReadU64::Value(extensions, e) = jxl_bitstream::read_u64(s, d) else {
         return ReadU64::Refused(FieldRefusal::UnexpectedEof, d);
     };
-    let small = add(add(orientation as u64, depth as u64), colour as u64);
+    let small = wrapping_add_u64(
+        wrapping_add_u64(orientation as u64, depth as u64),
+        colour as u64,
+    );
     let bright = if 255.0 < nits { 1 } else { 0 };
-    ReadU64::Value(add(add(small, bright), extensions), e)
+    ReadU64::Value(
+        wrapping_add_u64(wrapping_add_u64(small, bright), extensions),
+        e,
+    )
 }
 
 // Headers of a size and of what may follow.
@@ -241,7 +242,7 @@ pub extern "C" fn bench_header(s: &[u8], count: u64) -> u64 {
         let ReadU64::Value(rest, next) = metadata(s, middle) else {
             return sum;
         };
-        sum = add(sum, add(size, rest));
+        sum = wrapping_add_u64(sum, wrapping_add_u64(size, rest));
         at = next;
         i += 1;
     }

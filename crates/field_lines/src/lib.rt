@@ -1,6 +1,5 @@
 // Field calls and their answers as lines of text, one call a line, in the language of the stored list of the Rust's answers.
-ghost use mathlib.Core.Path.{_≡_};
-ghost use Prim.Native.Nat.{_%_, _^_, _≤_, _<_};
+ghost use Prim.Native.Nat.{_≤_, _<_};
 ghost use lib.ListN.{length};
 use jxl_bitstream::FieldRefusal;
 use jxl_bitstream::Moved;
@@ -24,12 +23,22 @@ pub struct Put {
     pub at: usize,
 }
 
+// What a call answers, as the list tells it: a number, an f32's bits, the place alone, a checksum alone, or a refusal.
+enum Answer {
+    Number(u64, usize),
+    Bits(u32, usize),
+    Place(usize),
+    Sum(u32, usize),
+    Refused(FieldRefusal, usize),
+}
+
 struct Choice {
     d: U32Specifier,
     next: usize,
 }
 
-fn put_place(out: &mut [u8], from: usize, at: usize) -> Put {
+// A position, behind the text that ends at `from`.
+fn put_place(from: usize, out: &mut [u8], at: usize) -> Put {
     let q = put_byte(out, from, b' ');
     Put {
         len: put_decimal(out, q, at as u64),
@@ -51,48 +60,19 @@ fn put_name(out: &mut [u8], r: FieldRefusal) -> usize {
     }
 }
 
-fn put_refusal(out: &mut [u8], r: FieldRefusal, at: usize) -> Put {
-    let q = put_name(out, r);
-    put_place(out, q, at)
-}
-
-fn put_u32(out: &mut [u8], a: ReadU32) -> Put {
+fn put_answer(out: &mut [u8], a: Answer) -> Put {
     match a {
-        ReadU32::Value(v, p) => {
-            let q = put_decimal(out, 0, v as u64);
-            put_place(out, q, p)
-        }
-        ReadU32::Refused(r, p) => put_refusal(out, r, p),
-    }
-}
-
-fn put_u64(out: &mut [u8], a: ReadU64) -> Put {
-    match a {
-        ReadU64::Value(v, p) => {
-            let q = put_decimal(out, 0, v);
-            put_place(out, q, p)
-        }
-        ReadU64::Refused(r, p) => put_refusal(out, r, p),
-    }
-}
-
-fn put_bool(out: &mut [u8], a: ReadBool) -> Put {
-    match a {
-        ReadBool::Value(v, p) => {
-            let q = put_decimal(out, 0, v as u64);
-            put_place(out, q, p)
-        }
-        ReadBool::Refused(r, p) => put_refusal(out, r, p),
-    }
-}
-
-fn put_moved(out: &mut [u8], a: Moved) -> Put {
-    match a {
-        Moved::To(p) => Put {
+        Answer::Number(v, p) => put_place(put_decimal(out, 0, v), out, p),
+        Answer::Bits(v, p) => put_place(put_hex8(out, 0, v), out, p),
+        Answer::Place(p) => Put {
             len: put_decimal(out, 0, p as u64),
             at: p,
         },
-        Moved::Refused(r, p) => put_refusal(out, r, p),
+        Answer::Sum(v, p) => Put {
+            len: put_hex8(out, 0, v),
+            at: p,
+        },
+        Answer::Refused(r, p) => put_place(put_name(out, r), out, p),
     }
 }
 
@@ -106,42 +86,23 @@ fn f16_bits(s: &[u8], at: usize) -> ReadU32 {
     }
 }
 
-fn put_f16(out: &mut [u8], a: ReadU32) -> Put {
-    match a {
-        ReadU32::Value(v, p) => {
-            let q = put_hex8(out, 0, v);
-            put_place(out, q, p)
-        }
-        ReadU32::Refused(r, p) => put_refusal(out, r, p),
-    }
-}
-
-// The f32's bits of a code, or all ones where it is refused.
-fn code_bits(code: u32) -> u32 {
-    let b = [(code % 256) as u8, (code / 256 % 256) as u8];
-    match f16_bits(&b, 0) {
-        ReadU32::Value(v, _) => v,
-        ReadU32::Refused(_, _) => 0xffff_ffff,
-    }
-}
-
-// The checksum of the 1,024 codes with these six highest bits.
+// The checksum of the 1,024 codes with these six highest bits: of each the f32's bits, or all ones where it is refused.
 fn checksum(top: u32) -> u32
     requires { ⌜ top < 64 ⌝ }
 {
     let mut h: u64 = 0;
     let mut m: u32 = 0;
     while m < 1024 {
-        h = (h * 31 + code_bits(top * 1024 + m) as u64) % 4294967291;
+        let code = top * 1024 + m;
+        let b = [(code % 256) as u8, (code / 256 % 256) as u8];
+        let x = match f16_bits(&b, 0) {
+            ReadU32::Value(v, _) => v,
+            ReadU32::Refused(_, _) => 0xffff_ffff,
+        };
+        h = (h * 31 + x as u64) % 4294967291;
         m += 1;
     }
     (h % 4294967291) as u32
-}
-
-fn constant(x: u64) -> u32
-    ensures { λ r. ⌜ r ≡ x % 2 ^ 32 ⌝ }
-{
-    (x % 0x1_0000_0000) as u32
 }
 
 // `c` and a constant, or an offset, a `+` and a width.
@@ -149,14 +110,14 @@ fn parse_choice(line: &[u8], at: usize) -> Choice {
     if byte_at(line, at) == b'c' {
         let c = parse_decimal(line, wrapping_add_usize(at, 1));
         return Choice {
-            d: U32Specifier::Constant(constant(c.value)),
+            d: U32Specifier::Constant((c.value % 0x1_0000_0000) as u32),
             next: wrapping_add_usize(c.next, 1),
         };
     }
     let offset = parse_decimal(line, at);
     let width = parse_decimal(line, wrapping_add_usize(offset.next, 1));
     Choice {
-        d: U32Specifier::BitsOffset(constant(offset.value), width.value as usize),
+        d: U32Specifier::BitsOffset((offset.value % 0x1_0000_0000) as u32, width.value as usize),
         next: wrapping_add_usize(width.next, 1),
     }
 }
@@ -184,7 +145,7 @@ fn fill_list(list: &mut [u32], line: &[u8]) -> usize
     let mut p = 2;
     while n < list.len() {
         let x = parse_decimal(line, p);
-        list[n] = constant(x.value);
+        list[n] = (x.value % 0x1_0000_0000) as u32;
         n += 1;
         if byte_at(line, x.next) != b',' {
             return n;
@@ -200,35 +161,45 @@ fn call_enum(s: &[u8], at: usize, line: &[u8]) -> ReadU32 {
     jxl_bitstream::read_enum(s, at, &list[..n])
 }
 
-fn number(line: &[u8]) -> usize {
-    let n = parse_decimal(line, 2);
-    n.value as usize
-}
-
-// The calls that take a number.
-fn answer_with(out: &mut [u8], s: &[u8], at: usize, op: u8, n: usize) -> Put {
-    match op {
-        b'k' => put_u32(out, jxl_bitstream::peek_bits(s, at, n)),
-        b'r' => put_u32(out, jxl_bitstream::read_bits(s, at, n)),
-        b'c' => put_moved(out, jxl_bitstream::consume_bits(s, at, n)),
-        b's' => put_moved(out, jxl_bitstream::skip_bits(s, at, n)),
-        _ => Put {
-            len: put_hex8(out, 0, checksum(constant(n as u64 % 64))),
-            at,
-        },
+fn number(a: ReadU32) -> Answer {
+    match a {
+        ReadU32::Value(v, p) => Answer::Number(v as u64, p),
+        ReadU32::Refused(r, p) => Answer::Refused(r, p),
     }
 }
 
-// The others.
-fn answer(out: &mut [u8], s: &[u8], at: usize, op: u8, line: &[u8]) -> Put {
-    match op {
-        b'z' => put_moved(out, jxl_bitstream::zero_pad_to_byte(s, at)),
-        b'b' => put_bool(out, jxl_bitstream::read_bool(s, at)),
-        b'w' => put_u32(out, call_u32(s, at, line)),
-        b'q' => put_u64(out, jxl_bitstream::read_u64(s, at)),
-        b'e' => put_u32(out, call_enum(s, at, line)),
-        b'f' => put_f16(out, f16_bits(s, at)),
-        _ => answer_with(out, s, at, op, number(line)),
+fn place(a: Moved) -> Answer {
+    match a {
+        Moved::To(p) => Answer::Place(p),
+        Moved::Refused(r, p) => Answer::Refused(r, p),
+    }
+}
+
+// The call of a line. One that is not named here asks for a checksum.
+fn call(s: &[u8], at: usize, line: &[u8]) -> Answer {
+    let x = parse_decimal(line, 2);
+    let n = x.value as usize;
+    match byte_at(line, 0) {
+        b'k' => number(jxl_bitstream::peek_bits(s, at, n)),
+        b'r' => number(jxl_bitstream::read_bits(s, at, n)),
+        b'c' => place(jxl_bitstream::consume_bits(s, at, n)),
+        b's' => place(jxl_bitstream::skip_bits(s, at, n)),
+        b'z' => place(jxl_bitstream::zero_pad_to_byte(s, at)),
+        b'w' => number(call_u32(s, at, line)),
+        b'e' => number(call_enum(s, at, line)),
+        b'q' => match jxl_bitstream::read_u64(s, at) {
+            ReadU64::Value(v, p) => Answer::Number(v, p),
+            ReadU64::Refused(r, p) => Answer::Refused(r, p),
+        },
+        b'b' => match jxl_bitstream::read_bool(s, at) {
+            ReadBool::Value(v, p) => Answer::Number(v as u64, p),
+            ReadBool::Refused(r, p) => Answer::Refused(r, p),
+        },
+        b'f' => match f16_bits(s, at) {
+            ReadU32::Value(v, p) => Answer::Bits(v, p),
+            ReadU32::Refused(r, p) => Answer::Refused(r, p),
+        },
+        _ => Answer::Sum(checksum((n % 64) as u32), at),
     }
 }
 
@@ -255,5 +226,5 @@ fn fill_bytes(bytes: &mut [u8], line: &[u8]) -> usize
 pub fn run(buffer: &[u8], at: usize, line: &[u8], out: &mut [u8]) -> Put {
     let mut bytes = [0u8; 32];
     let n = fill_bytes(&mut bytes, buffer);
-    answer(out, &bytes[..n], at, byte_at(line, 0), line)
+    put_answer(out, call(&bytes[..n], at, line))
 }

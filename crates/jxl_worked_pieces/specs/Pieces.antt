@@ -11,13 +11,13 @@ use Rattle.jxl_record.specs.declared.BitstreamKind.the-variants as K
 use Rattle.jxl_events.specs.declared.ParseEvent.{ParseEvent}
 use Rattle.jxl_events.specs.declared.ParseEvent.the-variants as E
 use Rattle.jxl_grammar.specs.Grammar.{Listing, Stop, want, refused, file, boxes}
-use Rattle.jxl_bits.specs.Answer.{gives}
-use Rattle.jxl_bits.specs.Bits.{number, bits}
-use Rattle.jxl_bits.specs.Readers.{begin, part}
-use Rattle.jxl_fields.specs.Fields.{select, anyWide, chunks, half, u32, u64, f16}
+use Rattle.jxl_bit_rules.specs.Answer.{gives}
+use Rattle.jxl_bit_rules.specs.Bits.{number, bits}
+use Rattle.jxl_bit_rules.specs.Readers.{begin, part}
+use Rattle.jxl_field_rules.specs.Fields.{select, anyWide, chunks, half, u32, u64, f16}
 use Rattle.jxl_half.specs.Half.{units, magnitude, pattern}
-use Rattle.jxl_fields.specs.declared.U32Specifier.{U32Specifier}
-use Rattle.jxl_fields.specs.declared.U32Specifier.the-variants.{Constant, BitsOffset}
+use Rattle.jxl_field_rules.specs.declared.U32Specifier.{U32Specifier}
+use Rattle.jxl_field_rules.specs.declared.U32Specifier.the-variants.{Constant, BitsOffset}
 
 -- a box header: a size under 256, and a type
 abbrev pub header : ℕ → List ℕ → List ℕ

@@ -26,8 +26,8 @@ loop-holds c = search needs
 parse-decimal-requires : tie.Need-parse-decimal-requires Inv-loop μ-loop
 parse-decimal-requires c κs = search needs
 
-constant-requires : tie.Need-constant-requires Inv-loop μ-loop
-constant-requires c κs = search needs
+cast-list : tie.Need-cast-list Inv-loop μ-loop
+cast-list c = search needs
 
 mul-list : tie.Need-mul-list Inv-loop μ-loop
 mul-list c = search needs
@@ -72,7 +72,7 @@ fill-list-spec =
     returns
     loop-holds
     parse-decimal-requires
-    constant-requires
+    cast-list
     mul-list
     slice-write-list
     add-n

@@ -16,16 +16,16 @@ fill-bytes-requires c κs = search needs
 array-share-prefix-bytes : tie.Need-array-share-prefix-bytes
 array-share-prefix-bytes c = search needs
 
-slice-aggregate-answer : tie.Need-slice-aggregate-answer
-slice-aggregate-answer c =
+slice-aggregate-call : tie.Need-slice-aggregate-call
+slice-aggregate-call c =
     let f = c .before .before .before .fill-bytes in
     sym (length-take-le (f .result) (f .last .0) (omega (arith, f .kept .0, f .ensures)))
 
-byte-at-requires : tie.Need-byte-at-requires
-byte-at-requires c κs = search needs
+call-requires : tie.Need-call-requires
+call-requires c κs = search needs
 
-answer-requires : tie.Need-answer-requires
-answer-requires c κs = search needs
+put-answer-requires : tie.Need-put-answer-requires
+put-answer-requires c κs = search needs
 
 same-length : tie.Need-same-length
 same-length c = search needs
@@ -40,8 +40,8 @@ run-spec =
     slice-aggregate-fill-bytes
     fill-bytes-requires
     array-share-prefix-bytes
-    slice-aggregate-answer
-    byte-at-requires
-    answer-requires
+    slice-aggregate-call
+    call-requires
+    put-answer-requires
     same-length
     returns)

@@ -3,9 +3,9 @@
 use mathlib.Core.Path.{_∙_, ap, sym}
 use Prim.Native.Nat.{zero-le}
 use borrow.Author.Needs.{needs}
-use Rattle.jxl_bits.specs.Readers.{over, consume}
-use Rattle.jxl_bits.specs.Told.{toldMoved}
-use Rattle.jxl_bits.proofs.Parts.{ready}
+use Rattle.jxl_bit_rules.specs.Readers.{over, consume}
+use Rattle.jxl_bit_rules.specs.Told.{toldMoved}
+use Rattle.jxl_bit_rules.proofs.Parts.{ready}
 use Rattle.jxl_bits.proofs.consume_bits.Statement.{statement}
 use Rattle.jxl_bits.proofs.consume_bits.Tie as tie
 

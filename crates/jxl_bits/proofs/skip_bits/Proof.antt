@@ -5,9 +5,9 @@ use mathlib.Core.Path.{_∙_, ap, sym}
 use Prim.Native.Nat.{zero-le}
 use native.Mathlib.Omega.{arith}
 use borrow.Author.Needs.{needs}
-use Rattle.jxl_bits.specs.Readers.{skip}
-use Rattle.jxl_bits.specs.Told.{toldMoved}
-use Rattle.jxl_bits.proofs.Parts.{begun, ready}
+use Rattle.jxl_bit_rules.specs.Readers.{skip}
+use Rattle.jxl_bit_rules.specs.Told.{toldMoved}
+use Rattle.jxl_bit_rules.proofs.Parts.{begun, ready}
 use Rattle.jxl_bits.proofs.skip_bits.Statement.{statement}
 use Rattle.jxl_bits.proofs.skip_bits.Tie as tie
 

@@ -4,8 +4,8 @@ use Prim.Native.Nat.{_+_}
 use native.Mathlib.Omega.{arith}
 use borrow.Author.Needs.{needs}
 use borrow.Author.Tests.{le-leb, lt-leb}
-use Rattle.jxl_bits.specs.Bits.{end}
-use Rattle.jxl_bits.specs.Readers.{move}
+use Rattle.jxl_bit_rules.specs.Bits.{end}
+use Rattle.jxl_bit_rules.specs.Readers.{move}
 use Rattle.jxl_bits.proofs.step.Statement.{statement}
 use Rattle.jxl_bits.proofs.step.Tie as tie
 

@@ -5,8 +5,8 @@ use mathlib.Core.Path.{_≡_, refl, sym, _∙_}
 use Prim.Native.Nat.{_-_, _≤_}
 use native.Mathlib.Omega.{arith}
 use lib.ListN.{length, drop}
-use Rattle.jxl_fields.specs.Fields.{member}
-use Rattle.jxl_fields.proofs.Lists.{passed, all-passed}
+use Rattle.jxl_field_rules.specs.Fields.{member}
+use Rattle.jxl_field_rules.proofs.Lists.{passed, all-passed}
 use Rattle.jxl_fields.proofs.listed.Statement.{statement}
 use Rattle.jxl_fields.proofs.listed.Tie as tie
 

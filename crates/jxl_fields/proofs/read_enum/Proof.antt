@@ -4,9 +4,9 @@ use mathlib.Core.Bool.{false}
 use mathlib.Core.Path.{_∙_, ap, sym}
 use Prim.Native.Nat.{zero-le}
 use borrow.Author.Needs.{needs}
-use Rattle.jxl_fields.specs.Fields.{anyWide, u32, enumOf}
-use Rattle.jxl_bits.specs.Told.{toldU32, toldMoved}
-use Rattle.jxl_bits.proofs.Parts.{ready, long-only}
+use Rattle.jxl_field_rules.specs.Fields.{anyWide, u32, enumOf}
+use Rattle.jxl_bit_rules.specs.Told.{toldU32, toldMoved}
+use Rattle.jxl_bit_rules.proofs.Parts.{ready, long-only}
 use Rattle.jxl_fields.proofs.read_enum.Statement.{statement}
 use Rattle.jxl_fields.proofs.read_enum.Tie as tie
 
