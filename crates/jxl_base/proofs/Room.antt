@@ -4,7 +4,7 @@ use mathlib.Core.Bool.{Bool, true, false}
 use Prim.Native.Nat.{ℕ, _+_, _-_, _^_, _<_, _≤_}
 use native.Mathlib.Omega.{arith}
 use lib.Dec.{ltb, leb, eqb}
-use borrow.Author.Tests.{eq-eqb, ne-eqb, eqb-true, eqb-false, lt-ltb, le-ltb, leb-true, leb-false}
+use borrow.Author.Tests.{eq-eqb, ne-eqb, eqb-true, eqb-false, lt-ltb, le-ltb, ltb-true, ltb-false, leb-true, leb-false}
 
 pub ends-below : (a n b : ℕ) → b < a → false ≡ eqb (a + n) b
 ends-below a n b h = sym (ne-eqb (a + n) b (λ e. omega arith))
@@ -30,3 +30,14 @@ room-behind b a n h k =
 
 pub no-room : (b a n : ℕ) → b < 2 ^ 64 → 18446744073709551615 - b < a → false ≡ ltb (b + a + n) (2 ^ 64)
 no-room b a n h k = sym (le-ltb (b + a + n) (2 ^ 64) (omega arith))
+
+-- the same test by the last place where 4 bytes start, and by what is left
+pub short-all : (n a : ℕ) → n < 4 → true ≡ ltb (n - a) 4
+short-all n a h = sym (lt-ltb (n - a) 4 (omega arith))
+
+pub short-behind : (n a : ℕ) → 4 ≤ n → ltb (n - 4) a ≡ ltb (n - a) 4
+short-behind n a h = go (ltb (n - 4) a) refl
+  where
+    go : (t : Bool) → ltb (n - 4) a ≡ t → ltb (n - 4) a ≡ ltb (n - a) 4
+    go true e = e ∙ sym (lt-ltb (n - a) 4 (omega (arith, ltb-true (n - 4) a e)))
+    go false e = e ∙ sym (le-ltb (n - a) 4 (omega (arith, ltb-false (n - 4) a e)))

@@ -10,6 +10,7 @@ use jxl_record::DetectState;
 use jxl_record::JxlpIndexState;
 ghost use mathlib.Core.Path.{_≡_};
 ghost use Prim.Native.Nat.{_+_, _-_, _^_, _<_, min};
+ghost use lib.Dec.{ltb};
 ghost use lib.ListN.{length, drop};
 ghost use Rattle.jxl_headers.specs.Types.{reserved};
 ghost use Rattle.jxl_grammar.specs.Step as Spec;
@@ -173,11 +174,11 @@ fn least(m: u64, n: usize) -> usize
     if m <= n as u64 { m as usize } else { n }
 }
 
-// How many bytes of the input stand behind its first `at`.
-fn rest(s: &[u8], at: usize) -> usize
-    ensures { λ r. ⌜ r ≡ length (now (s .entry)) - at ⌝ }
+// Whether fewer than 4 bytes of the input stand behind its first `at`. The same tests as `be32_at` makes, so it makes none behind them.
+fn is_short(s: &[u8], at: usize) -> bool
+    ensures { λ r. ⌜ r ≡ ltb (length (now (s .entry)) - at) 4 ⌝ }
 {
-    if s.len() < at { 0 } else { s.len() - at }
+    if s.len() < 4 { true } else { s.len() - 4 < at }
 }
 
 // The row of `jxlp` boxes behind index `i`: bit 31 marks the last.
@@ -196,7 +197,7 @@ pub fn index_step(i: u32, left: BytesLeft, s: &[u8], at: usize) -> StepResult
     ensures { λ r. ⌜ told r ≡ Spec.ahead at (Spec.indexStep i left (drop at (now (s .entry)))) ⌝ }
 {
     let waiting = ContainerParser::at(DetectState::WaitingJxlpIndex(left), JxlpIndexState::Jxlp(i));
-    if rest(s, at) < 4 {
+    if is_short(s, at) {
         return StepResult::Want {
             next: waiting,
             consumed: at,
@@ -234,7 +235,7 @@ pub fn inner_step(jxlp: JxlpIndexState, left: BytesLeft, s: &[u8], at: usize) ->
     ensures { λ r. ⌜ told r ≡ Spec.ahead at (Spec.innerStep jxlp left (drop at (now (s .entry)))) ⌝ }
 {
     let waiting = ContainerParser::at(DetectState::WaitingInnerType(left), jxlp);
-    if rest(s, at) < 4 {
+    if is_short(s, at) {
         return StepResult::Want {
             next: waiting,
             consumed: at,

@@ -1,7 +1,11 @@
 use mathlib.Core.Path.{_≡_, sym, ap, _∙_}
+use Prim.Native.Nat.{_-_}
+use native.Mathlib.Omega.{arith}
+use lib.ListN.{length}
 use denote.Ref.{now}
 use Rattle.jxl_headers.specs.Types.{reserved}
 use Rattle.jxl_grammar.proofs.Step.{far-inner-wants, far-inner-reserved, far-inner-shows}
+use borrow.Author.Tests.{ltb-true, ltb-false}
 use borrow.Author.Needs.{needs}
 use Rattle.jxl_payloads.proofs.inner_step.Statement.{statement}
 use Rattle.jxl_payloads.proofs.inner_step.Tie as tie
@@ -9,11 +13,11 @@ use Rattle.jxl_payloads.proofs.inner_step.Tie as tie
 at-requires : tie.Need-at-requires
 at-requires c κs = search needs
 
-rest-requires : tie.Need-rest-requires
-rest-requires c κs = search needs
+is-short-requires : tie.Need-is-short-requires
+is-short-requires c κs = search needs
 
 returns : tie.Need-returns
-returns c = rw (c .before .before .at .ensures) (sym (far-inner-wants (now (c .before .before .before .before .args .s)) _ _ _ (rw (c .before .rest .ensures) at (c .if1 .taken))))
+returns c = rw (c .before .before .at .ensures) (sym (far-inner-wants (now (c .before .before .before .before .args .s)) _ _ _ (ltb-true _ _ (sym (c .before .is-short .ensures) ∙ c .if1 .taken))))
 
 be32-at-requires : tie.Need-be32-at-requires
 be32-at-requires c κs = search needs
@@ -22,7 +26,7 @@ is-reserved-requires : tie.Need-is-reserved-requires
 is-reserved-requires c κs = search needs
 
 add-refuse : tie.Need-add-refuse
-add-refuse c = search needs
+add-refuse c = omega (arith, ltb-false (length (now (c .before .before .before .before .before .before .before .args .s)) - c .before .before .before .before .before .before .before .args .at) 4 (sym (c .before .before .before .before .is-short .ensures) ∙ c .before .before .before .if1 .left))
 
 refuse-requires : tie.Need-refuse-requires
 refuse-requires c κs = search needs
@@ -31,7 +35,7 @@ returns-2 : tie.Need-returns-2
 returns-2 c =
     c .refuse .ensures
     ∙ rw (c .before .before .before .before .before .before .at .ensures)
-    (sym (far-inner-reserved (now (c .before .before .before .before .before .before .before .before .args .s)) _ _ _ (rw (c .before .before .before .before .before .rest .ensures) at (c .before .before .before .before .if1 .left)) (sym (ap reserved (c .before .before .before .be32-at .ensures)) ∙ sym (c .before .before .is-reserved .ensures) ∙ c .before .if2 .taken)))
+    (sym (far-inner-reserved (now (c .before .before .before .before .before .before .before .before .args .s)) _ _ _ (ltb-false _ _ (sym (c .before .before .before .before .before .is-short .ensures) ∙ c .before .before .before .before .if1 .left)) (sym (ap reserved (c .before .before .before .be32-at .ensures)) ∙ sym (c .before .before .is-reserved .ensures) ∙ c .before .if2 .taken)))
 
 less-requires : tie.Need-less-requires
 less-requires c κs = search needs
@@ -42,20 +46,20 @@ to-end-requires c κs = search needs
 at-requires-2 : tie.Need-at-requires-2
 at-requires-2 c κs = search needs
 
-add-t9 : tie.Need-add-t9
-add-t9 c = search needs
+add-t17 : tie.Need-add-t17
+add-t17 c = omega (arith, ltb-false (length (now (c .before .before .before .before .before .before .before .before .before .before .args .s)) - c .before .before .before .before .before .before .before .before .before .before .args .at) 4 (sym (c .before .before .before .before .before .before .before .is-short .ensures) ∙ c .before .before .before .before .before .before .if1 .left))
 
 returns-3 : tie.Need-returns-3
 returns-3 c =
     rw (c .at2 .ensures, c .before .to-end .ensures, c .before .before .less .ensures, c .before .before .before .before .before .be32-at .ensures)
-    (sym (far-inner-shows (now (c .before .before .before .before .before .before .before .before .before .before .args .s)) _ _ _ (rw (c .before .before .before .before .before .before .before .rest .ensures) at (c .before .before .before .before .before .before .if1 .left)) (sym (ap reserved (c .before .before .before .before .before .be32-at .ensures)) ∙ sym (c .before .before .before .before .is-reserved .ensures) ∙ c .before .before .before .if2 .left)))
+    (sym (far-inner-shows (now (c .before .before .before .before .before .before .before .before .before .before .args .s)) _ _ _ (ltb-false _ _ (sym (c .before .before .before .before .before .before .before .is-short .ensures) ∙ c .before .before .before .before .before .before .if1 .left)) (sym (ap reserved (c .before .before .before .before .before .be32-at .ensures)) ∙ sym (c .before .before .before .before .is-reserved .ensures) ∙ c .before .before .before .if2 .left)))
 
 pub inner-step-spec : {M : Type 1} → statement M
 inner-step-spec =
     tie.close
     (tie.spec
     at-requires
-    rest-requires
+    is-short-requires
     returns
     be32-at-requires
     is-reserved-requires
@@ -65,5 +69,5 @@ inner-step-spec =
     less-requires
     to-end-requires
     at-requires-2
-    add-t9
+    add-t17
     returns-3)
