@@ -2,21 +2,12 @@
 use jxl_events::ParseEvent;
 use jxl_lines::Line;
 ghost use mathlib.Core.Path.{_≡_};
-ghost use mathlib.Core.List.{[], _∷_, _++_};
+ghost use mathlib.Core.List.{[], _∷_};
 ghost use Prim.Native.Nat.{_+_, _≤_};
 ghost use lib.ListN.{length};
-ghost use Rattle.jxl_lines.specs.Digits.{decimal, hex8};
+ghost use Rattle.jxl_lines.specs.Digits.{decimal};
 ghost use Rattle.jxl_lines.specs.Lines.{rest, text};
 ghost use Rattle.jxl_lines.specs.Pasting.{next, placed, Pasted};
-
-// A word and the type behind it: the start of a line on a side box.
-fn put_typed(out: &mut [u8], at: usize, word: &[u8], ty: u32) -> usize
-    requires { ⌜ at + length (now word) + 9 ≤ length (now out) ⌝ }
-    ensures { λ r. ⌜ Pasted (now (out .entry)) at (now (word .entry) ++ (9 ∷ hex8 ty)) (now (out .exit)) r ⌝ }
-{
-    let a = jxl_words::put_word(out, at, word);
-    jxl_digits::put_type(out, a, ty)
-}
 
 // The last number of a line.
 fn put_last(out: &mut [u8], at: usize, n: usize) -> usize
@@ -42,9 +33,10 @@ fn start_line(out: &mut [u8], at: usize, ty: u32, brotli: bool, to_end: bool) ->
     requires { ⌜ at + length (text (Line.Shown (ParseEvent.AuxBoxStart ty brotli «to_end»))) ≤ length (now out) ⌝ }
     ensures { λ r. ⌜ Pasted (now (out .entry)) at (text (Line.Shown (ParseEvent.AuxBoxStart ty brotli «to_end»))) (now (out .exit)) r ⌝ }
 {
-    let a = put_typed(out, at, b"start", ty);
-    let b = jxl_words::put_either(out, a, brotli, b"\tbrob", b"\tplain");
-    jxl_words::put_either(out, b, to_end, b"\ttoend\n", b"\tbounded\n")
+    let a = jxl_words::put_word(out, at, b"start");
+    let b = jxl_digits::put_type(out, a, ty);
+    let c = jxl_words::put_either(out, b, brotli, b"\tbrob", b"\tplain");
+    jxl_words::put_either(out, c, to_end, b"\ttoend\n", b"\tbounded\n")
 }
 
 // A line, for which there is room.
@@ -66,11 +58,13 @@ fn write_line(out: &mut [u8], at: usize, line: Line) -> usize
                 last_box: to_end,
             } => start_line(out, at, ty, brotli, to_end),
             ParseEvent::AuxBoxData { ty, at: place, len } => {
-                let b = put_typed(out, at, b"data", ty);
+                let a = jxl_words::put_word(out, at, b"data");
+                let b = jxl_digits::put_type(out, a, ty);
                 put_span(out, b, place, len)
             }
             ParseEvent::AuxBoxEnd { ty } => {
-                let c = put_typed(out, at, b"end", ty);
+                let a = jxl_words::put_word(out, at, b"end");
+                let c = jxl_digits::put_type(out, a, ty);
                 jxl_words::put_word(out, c, b"\n")
             }
         },

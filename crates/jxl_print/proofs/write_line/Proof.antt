@@ -1,7 +1,8 @@
 use native.Mathlib.Omega.{arith}
 use mathlib.Core.List.{[], _∷_, _++_}
 use denote.Ref.{now}
-use Rattle.jxl_lines.specs.Lines.{code, stop, stopWord}
+use Rattle.jxl_lines.specs.Digits.{hex8}
+use Rattle.jxl_lines.specs.Lines.{code, end, part, stop, stopWord}
 use Rattle.jxl_lines.proofs.Bytes.{pasted-as, pasted-then, pasted-placed, placed-room}
 use Rattle.jxl_lines.proofs.Numbers.{type-length}
 use Rattle.jxl_lines.proofs.Sizes.{data-size, end-size, span-size, last-size, code-size, stop-size, stop-start-size, stop-text}
@@ -55,34 +56,44 @@ start-line-requires c κs = rw (c .before .before .before .before .before .line 
 enum-known-event-4 : tie.Need-enum-known-event-4
 enum-known-event-4 c = search needs
 
-slice-aggregate-put-typed : tie.Need-slice-aggregate-put-typed
-slice-aggregate-put-typed c = search needs
-
-put-typed-requires : tie.Need-put-typed-requires
-put-typed-requires c κs =
-    let e = c .before .before .before .event4 .given .0 in
-    omega (arith, rw (c .before .before .before .before .before .before .line .given .1, c .before .before .before .event4 .given .1) at (c .before .before .before .before .before .before .before .before .before .pre), data-size (e .0) (e .1 .0) (e .1 .1 .0))
-
-put-span-requires-2 : tie.Need-put-span-requires-2
-put-span-requires-2 c κs =
-    let e = c .before .before .before .before .before .before .before .event4 .given .0 in
-    let fits = rw (c .before .before .before .before .before .before .before .before .before .before .line .given .1, c .before .before .before .before .before .before .before .event4 .given .1) at (c .before .before .before .before .before .before .before .before .before .before .before .before .before .pre) in
-    omega (arith, fits, data-size (e .0) (e .1 .0) (e .1 .1 .0), span-size (e .1 .0) (e .1 .1 .0), type-length (e .0), c .before .before .before .put-typed .ensures .next, c .before .before .before .put-typed .kept .0)
-
-enum-known-event-5 : tie.Need-enum-known-event-5
-enum-known-event-5 c = search needs
-
-slice-aggregate-put-typed-2 : tie.Need-slice-aggregate-put-typed-2
-slice-aggregate-put-typed-2 c = search needs
-
-put-typed-requires-2 : tie.Need-put-typed-requires-2
-put-typed-requires-2 c κs = omega (arith, rw (c .before .before .before .before .before .before .line .given .1, c .before .before .before .event5 .given .1) at (c .before .before .before .before .before .before .before .before .before .pre), end-size (c .before .before .before .event5 .given .0 .0))
-
 slice-aggregate-put-word-3 : tie.Need-slice-aggregate-put-word-3
 slice-aggregate-put-word-3 c = search needs
 
 put-word-requires-3 : tie.Need-put-word-requires-3
 put-word-requires-3 c κs = search needs
+
+put-type-requires : tie.Need-put-type-requires
+put-type-requires c κs = search needs
+
+put-span-requires-2 : tie.Need-put-span-requires-2
+put-span-requires-2 c κs =
+    let begun = c .before .before .before .before .before .before .before .before .before .before .before .before .before .before .before .before .before in
+    let a = begun .args in
+    let e = c .before .before .before .before .before .before .before .before .before .before .before .event4 .given .0 in
+    let fits = rw (c .before .before .before .before .before .before .before .before .before .before .before .before .before .before .line .given .1, c .before .before .before .before .before .before .before .before .before .before .before .event4 .given .1) at (begun .pre) in
+    let size = data-size (e .0) (e .1 .0) (e .1 .1 .0) in
+    let typed = type-length (e .0) in
+    let p = placed-room (now (a .out)) (a .at) part (omega (arith, fits)) (c .before .before .before .before .before .before .before .put-word3 .ensures) in
+    let q = pasted-placed p (9 ∷ hex8 (e .0)) (omega (arith, fits)) (c .before .before .before .put-type .ensures) in
+    omega (arith, fits, span-size (e .1 .0) (e .1 .1 .0), q .next, c .before .before .before .put-type .kept .0, c .before .before .before .before .before .before .before .put-word3 .kept .0)
+
+enum-known-event-5 : tie.Need-enum-known-event-5
+enum-known-event-5 c = search needs
+
+slice-aggregate-put-word-4 : tie.Need-slice-aggregate-put-word-4
+slice-aggregate-put-word-4 c = search needs
+
+put-word-requires-4 : tie.Need-put-word-requires-4
+put-word-requires-4 c κs = search needs
+
+put-type-requires-2 : tie.Need-put-type-requires-2
+put-type-requires-2 c κs = search needs
+
+slice-aggregate-put-word-5 : tie.Need-slice-aggregate-put-word-5
+slice-aggregate-put-word-5 c = search needs
+
+put-word-requires-5 : tie.Need-put-word-requires-5
+put-word-requires-5 c κs = search needs
 
 enum-known-line-2 : tie.Need-enum-known-line-2
 enum-known-line-2 c = search needs
@@ -136,16 +147,31 @@ same-length-5 : tie.Need-same-length-5
 same-length-5 c = search needs
 
 returns-5 : tie.Need-returns-5
-returns-5 c = rw (c .before .before .before .before .before .before .before .before .before .before .before .before .before .line .given .1, c .before .before .before .before .before .before .before .before .before .before .event4 .given .1) (pasted-then (c .before .before .before .before .before .before .put-typed .ensures) (c .before .before .put-span2 .ensures))
+returns-5 c =
+    let begun = c .before .before .before .before .before .before .before .before .before .before .before .before .before .before .before .before .before .before .before .before in
+    let a = begun .args in
+    let e = c .before .before .before .before .before .before .before .before .before .before .before .before .before .before .event4 .given .0 in
+    let fits = rw (c .before .before .before .before .before .before .before .before .before .before .before .before .before .before .before .before .before .line .given .1, c .before .before .before .before .before .before .before .before .before .before .before .before .before .before .event4 .given .1) at (begun .pre) in
+    let size = data-size (e .0) (e .1 .0) (e .1 .1 .0) in
+    let typed = type-length (e .0) in
+    let p = placed-room (now (a .out)) (a .at) part (omega (arith, fits)) (c .before .before .before .before .before .before .before .before .before .before .put-word3 .ensures) in
+    let q = pasted-placed p (9 ∷ hex8 (e .0)) (omega (arith, fits)) (c .before .before .before .before .before .before .put-type .ensures) in
+    rw (c .before .before .before .before .before .before .before .before .before .before .before .before .before .before .before .before .before .line .given .1, c .before .before .before .before .before .before .before .before .before .before .before .before .before .before .event4 .given .1) (pasted-then q (c .before .before .put-span2 .ensures))
 
 same-length-6 : tie.Need-same-length-6
 same-length-6 c = search needs
 
 returns-6 : tie.Need-returns-6
 returns-6 c =
-    let ty = c .before .before .before .before .before .before .before .before .before .before .before .event5 .given .0 .0 in
-    let fits = rw (c .before .before .before .before .before .before .before .before .before .before .before .before .before .before .line .given .1, c .before .before .before .before .before .before .before .before .before .before .before .event5 .given .1) at (c .before .before .before .before .before .before .before .before .before .before .before .before .before .before .before .before .before .pre) in
-    rw (c .before .before .before .before .before .before .before .before .before .before .before .before .before .before .line .given .1, c .before .before .before .before .before .before .before .before .before .before .before .event5 .given .1) (pasted-placed (c .before .before .before .before .before .before .before .put-typed2 .ensures) (10 ∷ []) (omega (arith, fits, end-size ty, type-length ty)) (c .before .before .put-word3 .ensures))
+    let begun = c .before .before .before .before .before .before .before .before .before .before .before .before .before .before .before .before .before .before .before .before .before in
+    let a = begun .args in
+    let ty = c .before .before .before .before .before .before .before .before .before .before .before .before .before .before .before .event5 .given .0 .0 in
+    let fits = rw (c .before .before .before .before .before .before .before .before .before .before .before .before .before .before .before .before .before .before .line .given .1, c .before .before .before .before .before .before .before .before .before .before .before .before .before .before .before .event5 .given .1) at (begun .pre) in
+    let size = end-size ty in
+    let typed = type-length ty in
+    let p = placed-room (now (a .out)) (a .at) end (omega (arith, fits)) (c .before .before .before .before .before .before .before .before .before .before .before .put-word4 .ensures) in
+    let q = pasted-placed p (9 ∷ hex8 ty) (omega (arith, fits)) (c .before .before .before .before .before .before .before .put-type2 .ensures) in
+    rw (c .before .before .before .before .before .before .before .before .before .before .before .before .before .before .before .before .before .before .line .given .1, c .before .before .before .before .before .before .before .before .before .before .before .before .before .before .before .event5 .given .1) (pasted-placed q (10 ∷ []) (omega (arith, fits)) (c .before .before .put-word5 .ensures))
 
 same-length-7 : tie.Need-same-length-7
 same-length-7 c = search needs
@@ -178,14 +204,16 @@ write-line-spec =
     enum-known-event-3
     start-line-requires
     enum-known-event-4
-    slice-aggregate-put-typed
-    put-typed-requires
-    put-span-requires-2
-    enum-known-event-5
-    slice-aggregate-put-typed-2
-    put-typed-requires-2
     slice-aggregate-put-word-3
     put-word-requires-3
+    put-type-requires
+    put-span-requires-2
+    enum-known-event-5
+    slice-aggregate-put-word-4
+    put-word-requires-4
+    put-type-requires-2
+    slice-aggregate-put-word-5
+    put-word-requires-5
     enum-known-line-2
     put-stop-requires
     put-last-requires
