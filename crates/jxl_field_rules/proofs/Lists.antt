@@ -10,7 +10,7 @@ use borrow.Author.Tests.{eqb-true}
 use lib.Dec.{eqb}
 use lib.ListN.{length, getD, drop, drop-of-length-le}
 use lib.Seq.{drop-cons}
-use Rattle.jxl_bit_rules.specs.Answer.{Answer, gives, refuses, done, refuse}
+use Rattle.jxl_bit_rules.specs.Answer.{gives, done, refuse}
 use Rattle.jxl_bit_rules.specs.Refusals.{enum}
 use Rattle.jxl_bit_rules.proofs.Parts.{differ, gave}
 use Rattle.jxl_field_rules.specs.Fields.{four, member, u32, enumOf}

@@ -1,12 +1,11 @@
 -- Bytes put one behind the other.
 use mathlib.Core.Path.{_≡_, refl, sym, ap, subst, _∙_}
 use mathlib.Core.List.{List, [], _∷_, _++_, append-assoc}
-use Prim.Native.Nat.{ℕ, _+_, _<_, _≤_}
+use Prim.Native.Nat.{ℕ, _+_, _≤_}
 use native.Mathlib.Omega.{arith}
 use lib.ListN.{length, take, drop, set, length-append, length-drop}
 use lib.Seq.{take-length, take-at, drop-append-add, drop-drop, length-take-le, sets, sets-eq, paste}
-use borrow.Author.Tests.{le-leb, lt-leb}
-use Rattle.jxl_lines.specs.Pasting.{pasted, next, placed, Pasted}
+use Rattle.jxl_lines.specs.Pasting.{pasted, Pasted}
 
 -- a whole word copied in
 pub pasted-whole : (d : List ℕ) (at : ℕ) (w : List ℕ) → paste d at w (length w) ≡ pasted d at w
@@ -30,11 +29,6 @@ pasted-stored d at b w h =
 pub pasted-as : {d v w e : List ℕ} {at r : ℕ} → v ≡ w → Pasted d at v e r → Pasted d at w e r
 pasted-as {d} {v} {w} {e} {at} {r} same p = subst (λ (l : List ℕ). Pasted d at l e r) same p
 
--- the buffer keeps its length
-pub pasted-length : {d w e : List ℕ} {at r : ℕ} → Pasted d at w e r → length e ≡ length d
-pasted-length {d} {w} {e} {at} {r} p =
-    ap length (p .bytes) ∙ simp (length-append, length-drop) (omega (arith, length-append (take at d) w, length-take-le at d (omega (arith, p .room)), p .room))
-
 -- one word behind the other
 pub pasted-then : {d e f x y : List ℕ} {at r s : ℕ} → Pasted d at x e r → Pasted e r y f s → Pasted d at (x ++ y) f s
 pasted-then {d} {e} {f} {x} {y} {at} {r} {s} p q =
@@ -47,7 +41,7 @@ pasted-then {d} {e} {f} {x} {y} {at} {r} {s} p q =
     ap (λ (l : List ℕ). drop (r + length y) l) (p .bytes) ∙ ap (λ (n : ℕ). drop (n + length y) (pasted d at x)) (sym front)
     ∙ drop-append-add (take at d ++ x) tail (length y) ∙ drop-drop (length y) (at + length x) d
     ∙ ap (λ (n : ℕ). drop n d) both in
-    let same = pasted-length p in
+    let same : length e ≡ length d = ap length (p .bytes) ∙ simp (length-append, length-drop) (omega (arith, length-append (take at d) x, p .room)) in
     record {
       room = simp length-append (omega arith);
       bytes =
@@ -56,29 +50,3 @@ pasted-then {d} {e} {f} {x} {y} {at} {r} {s} p q =
           ∙ ap (λ (l : List ℕ). l ++ drop (at + length (x ++ y)) d) (append-assoc (take at d) x y);
       next = simp length-append (omega arith);
     }
-
--- what a function does that puts bytes where there is room for them: it puts them where there is room, else nothing changes
-module _ (d : List ℕ) (at : ℕ) (w : List ℕ) where
-  pub placed-over : length d < at + length w → next at d ≡ placed d at w
-  unfolding placed
-  placed-over h = rw lt-leb refl
-
-  pub placed-room : {e : List ℕ} {r : ℕ} → at + length w ≤ length d → next r e ≡ placed d at w → Pasted d at w e r
-  unfolding placed
-  placed-room {e} {r} h p =
-      let q : next r e ≡ next (at + length w) (pasted d at w) = rw le-leb at p in
-      record { room = h; bytes = cc; next = cc }
-
-pub placed-pasted : {d w e : List ℕ} {at r : ℕ} → Pasted d at w e r → next r e ≡ placed d at w
-unfolding placed
-placed-pasted {d} {w} {e} {at} {r} p =
-    let bytes = p .bytes in
-    let next = p .next in
-    let fits = p .room in
-    rw le-leb cc
-
--- a word put behind another where there is room for both
-pub pasted-placed : {d e f x : List ℕ} {at r s : ℕ} → Pasted d at x e r → (y : List ℕ) → at + length x + length y ≤ length d
-    → next s f ≡ placed e r y → Pasted d at (x ++ y) f s
-pasted-placed {d} {e} {f} {x} {at} {r} {s} p y h q =
-    pasted-then p (placed-room e r y (omega (arith, pasted-length p, p .next)) q)

@@ -41,28 +41,21 @@ decimal-longer n h = ap length (decimal-more n h) ∙ length-append (decimal (n 
 pub glyph-small : (d : ℕ) → d < 10 → glyph (d % 16) ≡ glyph d
 glyph-small d h = let same : d % 16 ≡ d = omega arith in ap glyph same
 
--- the last two digits, each its own last hex digit
+-- the last two digits
 abbrev pub lastTwo : ℕ → List ℕ
-lastTwo n = glyph (n / 10 % 10 % 16) ∷ glyph (n % 10 % 16) ∷ []
-
-last-two : (n : ℕ) → glyph (n / 10 % 10) ∷ glyph (n % 10) ∷ [] ≡ lastTwo n
-last-two n =
-    let high = glyph-small (n / 10 % 10) (omega arith) in
-    let low = glyph-small (n % 10) (omega arith) in
-    cc
+lastTwo n = glyph (n / 10 % 10) ∷ glyph (n % 10) ∷ []
 
 pub decimal-two : (n : ℕ) → 10 ≤ n → n < 100 → decimal n ≡ lastTwo n
 decimal-two n h g =
     let same : n / 10 ≡ n / 10 % 10 = omega arith in
     decimal-more n h ∙ ap (λ (l : List ℕ). l ++ (glyph (n % 10) ∷ [])) (decimal-small (n / 10) (omega arith))
-    ∙ ap (λ (d : ℕ). glyph d ∷ glyph (n % 10) ∷ []) same ∙ last-two n
+    ∙ ap (λ (d : ℕ). glyph d ∷ glyph (n % 10) ∷ []) same
 
 pub decimal-by-two : (n : ℕ) → 100 ≤ n → decimal n ≡ decimal (n / 100) ++ lastTwo n
 decimal-by-two n h =
     let same : n / 10 / 10 ≡ n / 100 = omega arith in
     decimal-more n (omega arith) ∙ ap (λ (l : List ℕ). l ++ (glyph (n % 10) ∷ [])) (decimal-more (n / 10) (omega arith))
     ∙ append-assoc (decimal (n / 10 / 10)) (glyph (n / 10 % 10) ∷ []) (glyph (n % 10) ∷ [])
-    ∙ ap (λ (l : List ℕ). decimal (n / 10 / 10) ++ l) (last-two n)
     ∙ ap (λ (k : ℕ). decimal k ++ lastTwo n) same
 
 pub decimal-two-longer : (n : ℕ) → 100 ≤ n → length (decimal n) ≡ length (decimal (n / 100)) + 2

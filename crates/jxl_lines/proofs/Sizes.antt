@@ -63,9 +63,6 @@ end-size t = simp length-append (omega (arith, type-length t))
 pub span-size : (a n : ℕ) → length (rest (decimal a ∷ decimal n ∷ [])) ≡ 3 + length (decimal a) + length (decimal n)
 span-size a n = simp length-append (omega arith)
 
-pub last-size : (n : ℕ) → length (rest (decimal n ∷ [])) ≡ 2 + length (decimal n)
-last-size n = simp length-append (omega arith)
-
 pub code-size : (a n : ℕ) → length (text (Shown (E.Codestream a n))) ≡ 7 + length (decimal a) + length (decimal n)
 code-size a n = simp length-append (omega arith)
 
@@ -73,10 +70,10 @@ pub stop-size : (s : StopWord) (n : ℕ) → length (text (Stopped s n)) ≡ 7 +
 stop-size s n = simp length-append (omega arith)
 
 -- the start of a stop's line, and the whole of it
-pub stop-start-size : (s : StopWord) → length (stop ++ (9 ∷ stopWord s)) ≡ 5 + length (stopWord s)
+pub stop-start-size : (s : StopWord) → length (stop ++ (9 ∷ (stopWord s ++ (9 ∷ [])))) ≡ 6 + length (stopWord s)
 stop-start-size s = simp length-append (omega arith)
 
-pub stop-text : (s : StopWord) (n : ℕ) → (stop ++ (9 ∷ stopWord s)) ++ ((9 ∷ decimal n) ++ (10 ∷ [])) ≡ text (Stopped s n)
+pub stop-text : (s : StopWord) (n : ℕ) → (stop ++ (9 ∷ (stopWord s ++ (9 ∷ [])))) ++ (decimal n ++ (10 ∷ [])) ≡ text (Stopped s n)
 stop-text s n = simp append-assoc
 
 pub most-bytes : MostBytes

@@ -1,12 +1,8 @@
--- Two answers that meet a promise are equal, and so are the buffers that they leave.
-use mathlib.Core.Path.{sym, _∙_}
+-- Two answers that meet a promise are equal.
 use Rattle.jxl_base.proofs.OneAnswer.{one-named}
 use Rattle.jxl_headers.specs.Refusals.{why}
 use Rattle.jxl_lines.specs.Lines.{printed}
-use Rattle.jxl_lines.specs.Theorems.{OneRefused, OnePlaced}
+use Rattle.jxl_lines.specs.Theorems.{OneRefused}
 
 pub one-refused : OneRefused
 one-refused w = one-named (printed (why w))
-
-pub one-placed : OnePlaced
-one-placed d at w x y b c p q = let same = p ∙ sym q in (cc, cc)

@@ -2,21 +2,11 @@
 use mathlib.Core.Path.{_≡_}
 use mathlib.Core.List.{List, _++_}
 use Prim.Native.Nat.{ℕ, _+_, _≤_}
-use lib.Dec.{leb}
 use lib.ListN.{length, take, drop}
-use Rattle.jxl_headers.specs.Bytes.{if}
 
 -- the buffer with w at `at`, every other byte as it was
 abbrev pub pasted : List ℕ → ℕ → List ℕ → List ℕ
 pasted d at w = take at d ++ w ++ drop (at + length w) d
-
--- where the next byte goes, and the buffer then
-pub data Placed : Type 0 where
-  next : ℕ → List ℕ → Placed
-
--- w put at `at` if it fits there; else the buffer stays as it was, and the next byte goes where this one should
-unfoldable pub placed : List ℕ → ℕ → List ℕ → Placed
-placed d at w = if (leb (at + length w) (length d)) (next (at + length w) (pasted d at w)) (next at d)
 
 -- w was put at `at` into d, where it fits, which gave e; the next byte goes to r
 pub record Pasted (d : List ℕ) (at : ℕ) (w e : List ℕ) (r : ℕ) : Type 0 where

@@ -1,13 +1,11 @@
 -- What is proved of lines, each statement a type that proofs/ has a proof of under the same name in small letters.
 use mathlib.Core.Path.{_≡_}
-use mathlib.Core.List.{List}
-use Prim.Native.Nat.{ℕ, _≤_}
+use Prim.Native.Nat.{_≤_}
 use lib.ListN.{length}
-use Rattle.jxl_base.specs.OneAnswer.{OneAnswer, OneAnswerAndBuffer}
+use Rattle.jxl_base.specs.OneAnswer.{OneAnswer}
 use Rattle.jxl_headers.specs.Refusals.{why}
 use Rattle.jxl_headers.specs.declared.BoxRefusal.{BoxRefusal}
 use Rattle.jxl_lines.specs.Lines.{printed, text, InRange}
-use Rattle.jxl_lines.specs.Pasting.{next, placed}
 use Rattle.jxl_lines.specs.declared.Line.{Line}
 
 -- a line has at most 56 bytes
@@ -22,10 +20,6 @@ LeastBytes = (l : Line) → 7 ≤ length (text l)
 abbrev pub NoTwoAlike : Type 0
 NoTwoAlike = (x y : Line) → InRange x → InRange y → text x ≡ text y → x ≡ y
 
--- one answer: each promise determines what its function gives, and the buffer that it leaves
+-- one answer: each promise determines what its function gives
 abbrev pub OneRefused : Type 0
 OneRefused = (w : BoxRefusal) → OneAnswer (λ r. r ≡ printed (why w))
-
--- the same of every function that puts bytes where there is room for them
-abbrev pub OnePlaced : Type 0
-OnePlaced = (d : List ℕ) (at : ℕ) (w : List ℕ) → OneAnswerAndBuffer (λ r b. next r b ≡ placed d at w)

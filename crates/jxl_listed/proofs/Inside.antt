@@ -14,18 +14,16 @@ use Rattle.jxl_headers.specs.Reach.{under, less}
 use Rattle.jxl_headers.specs.declared.BytesLeft.{BytesLeft}
 use Rattle.jxl_headers.specs.declared.BytesLeft.the-variants.{ToEnd, Bytes}
 use Rattle.jxl_record.specs.Record.{at, overIndex}
-use Rattle.jxl_grammar.specs.Step.{Told, shows, wants, inCode, codePart, stepOf}
+use Rattle.jxl_grammar.specs.Step.{shows, wants, inCode, codePart, stepOf}
 use Rattle.jxl_grammar.proofs.Step.{code-shows, step-empty}
 use Rattle.jxl_record.specs.declared.BitstreamKind.{BitstreamKind}
 use Rattle.jxl_record.specs.declared.JxlpIndexState.{JxlpIndexState}
 use Rattle.jxl_record.specs.declared.DetectState.{DetectState}
 use Rattle.jxl_record.specs.declared.DetectState.the-variants as D
 use Rattle.jxl_record.specs.declared.ContainerParser.{ContainerParser}
-use Rattle.jxl_events.specs.declared.ParseEvent.{ParseEvent}
 use Rattle.jxl_events.specs.declared.ParseEvent.the-variants as E
 use Rattle.jxl_joiner.specs.Joiner.{added, adding, handed}
 use Rattle.jxl_joiner.specs.declared.Added.{Added}
-use Rattle.jxl_joiner.specs.declared.MaybeEvent.{MaybeEvent}
 use Rattle.jxl_joiner.specs.declared.MaybeEvent.the-variants.{None, Some}
 use Rattle.jxl_grammar.proofs.Cut.{step-code}
 use Rattle.jxl_lines.specs.declared.StopWord.the-variants as S
@@ -33,7 +31,7 @@ use Rattle.jxl_listed.specs.Listed.{texts}
 use Rattle.jxl_listed.specs.Turned.{Turned, over, behind, turnFrom}
 use Rattle.jxl_listed.specs.declared.TurnEnd.the-variants as TurnEnd
 use Rattle.jxl_listed.specs.Theorems.{WayLeads}
-use Rattle.jxl_listed.specs.Way.{wayBehind, wayOf, Leads}
+use Rattle.jxl_listed.specs.Way.{wayBehind, Leads}
 use Rattle.jxl_listed.specs.declared.Way.the-variants as W
 use Rattle.jxl_listed.proofs.Goes.{lineOf, Goes, puts, waits, came-to}
 

@@ -5,7 +5,7 @@ use mathlib.Core.List.{List}
 use Prim.Native.Nat.{ℕ, _+_, _^_}
 use lib.Dec.{eqb, ltb}
 use lib.ListN.{length}
-use Rattle.jxl_headers.specs.Bytes.{if, and, or}
+use Rattle.jxl_headers.specs.Bytes.{if, and}
 use Rattle.jxl_headers.specs.Reach.{under, less}
 use Rattle.jxl_grammar.specs.Step.{inCode}
 use Rattle.jxl_record.specs.Record.{overIndex}

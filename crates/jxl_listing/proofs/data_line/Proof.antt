@@ -1,0 +1,40 @@
+use native.Mathlib.Omega.{arith}
+use Rattle.jxl_lines.proofs.Bytes.{pasted-then}
+use Rattle.jxl_lines.proofs.Numbers.{type-length}
+use Rattle.jxl_lines.proofs.Sizes.{data-size, span-size}
+use borrow.Author.Needs.{needs}
+use Rattle.jxl_listing.proofs.data_line.Statement.{statement}
+use Rattle.jxl_listing.proofs.data_line.Tie as tie
+
+slice-aggregate-copy-in : tie.Need-slice-aggregate-copy-in
+slice-aggregate-copy-in c = search needs
+
+copy-in-requires : tie.Need-copy-in-requires
+copy-in-requires c κs = search needs
+
+put-type-requires : tie.Need-put-type-requires
+put-type-requires c κs = omega (arith, data-size (c .before .before .before .before .before .before .before .args .ty) (c .before .before .before .before .before .before .before .args .place) (c .before .before .before .before .before .before .before .args .len))
+
+put-span-requires : tie.Need-put-span-requires
+put-span-requires c κs =
+    let a = c .before .before .before .before .before .before .before .before .before .before .before .args in
+    omega (arith, data-size (a .ty) (a .place) (a .len), span-size (a .place) (a .len), type-length (a .ty))
+
+same-length : tie.Need-same-length
+same-length c = search needs
+
+returns : tie.Need-returns
+returns c =
+    pasted-then (c .before .before .before .before .before .before .before .before .before .before .copy-in .ensures)
+    (pasted-then (c .before .before .before .before .before .before .put-type .ensures) (c .before .before .put-span .ensures))
+
+pub data-line-spec : {M : Type 1} → statement M
+data-line-spec =
+    tie.close
+    (tie.spec
+    slice-aggregate-copy-in
+    copy-in-requires
+    put-type-requires
+    put-span-requires
+    same-length
+    returns)

@@ -1,0 +1,68 @@
+use borrow.Author.Needs.{needs}
+use Rattle.jxl_listing.proofs.put_stop.Statement.{statement}
+use Rattle.jxl_listing.proofs.put_stop.Tie as tie
+
+enum-told : tie.Need-enum-told
+enum-told c = search needs
+
+slice-aggregate-copy-in : tie.Need-slice-aggregate-copy-in
+slice-aggregate-copy-in c = search needs
+
+copy-in-requires : tie.Need-copy-in-requires
+copy-in-requires c κs = rw (c .before .before .enum-told .given .1) at (c .before .before .before .before .before .pre)
+
+enum-told-2 : tie.Need-enum-told-2
+enum-told-2 c = search needs
+
+slice-aggregate-copy-in-2 : tie.Need-slice-aggregate-copy-in-2
+slice-aggregate-copy-in-2 c = search needs
+
+copy-in-requires-2 : tie.Need-copy-in-requires-2
+copy-in-requires-2 c κs = rw (c .before .before .enum-told2 .given .1) at (c .before .before .before .before .before .pre)
+
+enum-told-3 : tie.Need-enum-told-3
+enum-told-3 c = search needs
+
+slice-aggregate-copy-in-3 : tie.Need-slice-aggregate-copy-in-3
+slice-aggregate-copy-in-3 c = search needs
+
+copy-in-requires-3 : tie.Need-copy-in-requires-3
+copy-in-requires-3 c κs = rw (c .before .before .enum-told3 .given .1) at (c .before .before .before .before .before .pre)
+
+same-length : tie.Need-same-length
+same-length c = search needs
+
+returns : tie.Need-returns
+returns c = rw (c .before .before .before .before .before .enum-told .given .1) (c .before .before .copy-in .ensures)
+
+same-length-2 : tie.Need-same-length-2
+same-length-2 c = search needs
+
+returns-2 : tie.Need-returns-2
+returns-2 c = rw (c .before .before .before .before .before .enum-told2 .given .1) (c .before .before .copy-in2 .ensures)
+
+same-length-3 : tie.Need-same-length-3
+same-length-3 c = search needs
+
+returns-3 : tie.Need-returns-3
+returns-3 c = rw (c .before .before .before .before .before .enum-told3 .given .1) (c .before .before .copy-in3 .ensures)
+
+pub put-stop-spec : {M : Type 1} → statement M
+put-stop-spec =
+    tie.close
+    (tie.spec
+    enum-told
+    slice-aggregate-copy-in
+    copy-in-requires
+    enum-told-2
+    slice-aggregate-copy-in-2
+    copy-in-requires-2
+    enum-told-3
+    slice-aggregate-copy-in-3
+    copy-in-requires-3
+    same-length
+    returns
+    same-length-2
+    returns-2
+    same-length-3
+    returns-3)

@@ -1,0 +1,69 @@
+use lib.ListN.{length, length-append}
+use mathlib.Core.Path.{ap}
+use native.Mathlib.Omega.{arith}
+use Rattle.jxl_lines.proofs.Bytes.{pasted-as, pasted-then}
+use Rattle.jxl_lines.proofs.Numbers.{type-length}
+use Rattle.jxl_lines.proofs.Sizes.{brob-either, end-either, start-size}
+use borrow.Author.Needs.{needs}
+use Rattle.jxl_listing.proofs.start_line.Statement.{statement}
+use Rattle.jxl_listing.proofs.start_line.Tie as tie
+
+slice-aggregate-copy-in : tie.Need-slice-aggregate-copy-in
+slice-aggregate-copy-in c = search needs
+
+copy-in-requires : tie.Need-copy-in-requires
+copy-in-requires c κs = search needs
+
+put-type-requires : tie.Need-put-type-requires
+put-type-requires c κs =
+    let a = c .before .before .before .before .before .before .before .args in
+    omega (arith, start-size (a .ty) (a .brotli) (a .to-end), type-length (a .ty))
+
+slice-aggregate-put-either : tie.Need-slice-aggregate-put-either
+slice-aggregate-put-either c = search needs
+
+slice-aggregate-put-either-2 : tie.Need-slice-aggregate-put-either-2
+slice-aggregate-put-either-2 c = search needs
+
+put-either-requires : tie.Need-put-either-requires
+put-either-requires c κs =
+    let a = c .before .before .before .before .before .before .before .before .before .before .before .before .before .args in
+    omega (arith, start-size (a .ty) (a .brotli) (a .to-end), type-length (a .ty), ap length (brob-either (a .brotli)))
+
+slice-aggregate-put-either-3 : tie.Need-slice-aggregate-put-either-3
+slice-aggregate-put-either-3 c = search needs
+
+slice-aggregate-put-either-4 : tie.Need-slice-aggregate-put-either-4
+slice-aggregate-put-either-4 c = search needs
+
+put-either-requires-2 : tie.Need-put-either-requires-2
+put-either-requires-2 c κs =
+    let a = c .before .before .before .before .before .before .before .before .before .before .before .before .before .before .before .before .before .before .before .args in
+    omega (arith, start-size (a .ty) (a .brotli) (a .to-end), type-length (a .ty), ap length (brob-either (a .brotli)), simp length-append at (ap length (end-either (a .to-end))))
+
+same-length : tie.Need-same-length
+same-length c = search needs
+
+returns : tie.Need-returns
+returns c =
+    let a = c .before .before .before .before .before .before .before .before .before .before .before .before .before .before .before .before .before .before .before .before .before .before .args in
+    pasted-then (c .before .before .before .before .before .before .before .before .before .before .before .before .before .before .before .before .before .before .copy-in .ensures)
+    (pasted-then (c .before .before .before .before .before .before .before .before .before .before .before .before .before .before .put-type .ensures)
+    (pasted-then (pasted-as (brob-either (a .brotli)) (c .before .before .before .before .before .before .before .before .put-either .ensures))
+    (pasted-as (end-either (a .to-end)) (c .before .before .put-either2 .ensures))))
+
+pub start-line-spec : {M : Type 1} → statement M
+start-line-spec =
+    tie.close
+    (tie.spec
+    slice-aggregate-copy-in
+    copy-in-requires
+    put-type-requires
+    slice-aggregate-put-either
+    slice-aggregate-put-either-2
+    put-either-requires
+    slice-aggregate-put-either-3
+    slice-aggregate-put-either-4
+    put-either-requires-2
+    same-length
+    returns)
