@@ -1,0 +1,18 @@
+-- What a lent parser answers, with the parser that is left there: the step of jxl_grammar.
+use Prim.Native.Nat.{ℕ}
+use Rattle.jxl_headers.specs.Refusals.{why}
+use Rattle.jxl_record.specs.declared.ContainerParser.{ContainerParser}
+use Rattle.jxl_grammar.specs.Step.{Told, shows, wants, refuses}
+use Rattle.jxl_feed.specs.declared.Fed.{Fed}
+use Rattle.jxl_feed.specs.declared.Fed.the-variants as A
+
+abbrev pub toldFed : Fed → ContainerParser → Told
+toldFed (A.Shown e n) p = shows e p n
+toldFed (A.Want n) p = wants p n
+toldFed (A.Refused r n) p = refuses (why r) p n
+
+-- the parser that a step leaves
+abbrev pub nextOf : Told → ContainerParser
+nextOf (shows e p n) = p
+nextOf (wants p n) = p
+nextOf (refuses w p n) = p
