@@ -81,5 +81,5 @@ pub fn kind_of_file(input: &[u8]) -> BitstreamKind
 {
     let mut parser = ContainerParser::new();
     feed_bytes(&mut parser, input);
-    kind(&parser)
+    parser.kind()
 }
