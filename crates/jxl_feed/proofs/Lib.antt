@@ -1,2 +1,3 @@
+mod FirstStep
 mod Telling
 pub mod Unique

@@ -3,10 +3,10 @@ use mathlib.Core.Path.{_≡_, sym, _∙_}
 use Rattle.jxl_base.proofs.OneAnswer.{one-named}
 use Rattle.jxl_headers.specs.Refusals.{why}
 use Rattle.jxl_headers.proofs.Header.{why-one}
-use Rattle.jxl_record.specs.Record.{fresh, kindOf}
+use Rattle.jxl_record.specs.Record.{kindOf}
 use Rattle.jxl_record.specs.declared.ContainerParser.{ContainerParser}
 use Rattle.jxl_grammar.specs.Step.{stepOf}
-use Rattle.jxl_feed.specs.Fed.{nextOf, toldFed}
+use Rattle.jxl_feed.specs.Fed.{kindOfFile, toldFed}
 use Rattle.jxl_feed.specs.Theorems.{OneFeedBytes, OneKindLent, OneKindOfFile}
 use Rattle.jxl_feed.specs.declared.Fed.{Fed}
 use Rattle.jxl_feed.specs.declared.Fed.the-variants as A
@@ -32,4 +32,4 @@ pub one-kind-lent : OneKindLent
 one-kind-lent p = one-named (kindOf p)
 
 pub one-kind-of-file : OneKindOfFile
-one-kind-of-file s = one-named (kindOf (nextOf (stepOf fresh s)))
+one-kind-of-file s = one-named (kindOfFile s)

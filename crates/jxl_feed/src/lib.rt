@@ -5,9 +5,9 @@ use jxl_container::ContainerParser;
 use jxl_container::ParseEvent;
 use jxl_container::StepResult;
 ghost use mathlib.Core.Path.{_≡_};
-ghost use Rattle.jxl_record.specs.Record.{fresh, kindOf};
+ghost use Rattle.jxl_record.specs.Record.{kindOf};
 ghost use Rattle.jxl_grammar.specs.Step.{stepOf};
-ghost use Rattle.jxl_feed.specs.Fed.{nextOf, toldFed};
+ghost use Rattle.jxl_feed.specs.Fed.{kindOfFile, toldFed};
 
 // A step's answer without the parser.
 pub enum Fed {
@@ -77,7 +77,7 @@ pub fn kind(parser: &ContainerParser) -> BitstreamKind
 
 // The kind of a file by its first bytes: unknown where they are too few to tell. The parser lent here is this function's own.
 pub fn kind_of_file(input: &[u8]) -> BitstreamKind
-    ensures { λ r. ⌜ r ≡ kindOf (nextOf (stepOf fresh (now (input .entry)))) ⌝ }
+    ensures { λ r. ⌜ r ≡ kindOfFile (now (input .entry)) ⌝ }
 {
     let mut parser = ContainerParser::new();
     feed_bytes(&mut parser, input);
