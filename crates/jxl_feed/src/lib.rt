@@ -5,6 +5,8 @@ use jxl_container::ContainerParser;
 use jxl_container::ParseEvent;
 use jxl_container::StepResult;
 ghost use mathlib.Core.Path.{_≡_};
+ghost use Rattle.jxl_headers.specs.Bytes.{starts};
+ghost use Rattle.jxl_headers.specs.Signature.{containerSig};
 ghost use Rattle.jxl_record.specs.Record.{kindOf};
 ghost use Rattle.jxl_grammar.specs.Step.{stepOf};
 ghost use Rattle.jxl_feed.specs.Fed.{kindOfFile, toldFed};
@@ -82,4 +84,16 @@ pub fn kind_of_file(input: &[u8]) -> BitstreamKind
     let mut parser = ContainerParser::new();
     feed_bytes(&mut parser, input);
     parser.kind()
+}
+
+// Whether a file starts with a container's signature. A caller of what lends a parser has no parser in its contract, and its proof no walk.
+pub fn is_container(input: &[u8]) -> bool
+    ensures { λ r. ⌜ r ≡ starts containerSig (now (input .entry)) ⌝ }
+{
+    match kind_of_file(input) {
+        BitstreamKind::Container => true,
+        BitstreamKind::BareCodestream => false,
+        BitstreamKind::Invalid => false,
+        BitstreamKind::Unknown => false,
+    }
 }
