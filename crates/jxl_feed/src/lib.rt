@@ -7,7 +7,7 @@ use jxl_container::StepResult;
 ghost use mathlib.Core.Path.{_≡_};
 ghost use Rattle.jxl_headers.specs.Bytes.{starts};
 ghost use Rattle.jxl_headers.specs.Signature.{containerSig};
-ghost use Rattle.jxl_record.specs.Record.{kindOf};
+ghost use Rattle.jxl_record.specs.Record as Record;
 ghost use Rattle.jxl_grammar.specs.Step.{stepOf};
 ghost use Rattle.jxl_feed.specs.Fed.{kindOfFile, toldFed};
 
@@ -71,7 +71,7 @@ pub fn feed_bytes<'p, 's>(parser: &'p mut ContainerParser, input: &'s [u8]) -> F
 
 // The kind of bitstream that a lent parser tells.
 pub fn kind(parser: &ContainerParser) -> BitstreamKind
-    ensures { λ r. ⌜ r ≡ kindOf (now (parser .entry)) ⌝ }
+    ensures { λ r. ⌜ r ≡ Record.kindOf (now (parser .entry)) ⌝ }
 {
     let p = *parser;
     p.kind()
