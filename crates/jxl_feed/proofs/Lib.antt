@@ -1,3 +1,4 @@
 mod FirstStep
+pub mod Lending
 mod Telling
 pub mod Unique

@@ -1,6 +1,6 @@
 -- `is_container` meets its contract: all that is known of `kind_of_file` is that it meets its own.
 -- Assumes nothing.
-use mathlib.Core.Path.{_≡_, sym, ap, _∙_}
+use mathlib.Core.Path.{sym, ap, _∙_}
 use borrow.Author.Needs.{needs}
 use Rattle.jxl_feed.proofs.FirstStep.{boxed, boxed-file}
 use Rattle.jxl_feed.proofs.is_container.Statement.{statement}
