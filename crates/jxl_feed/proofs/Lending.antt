@@ -43,13 +43,11 @@ use Rattle.jxl_grammar.specs.Step.{stepOf}
 use Rattle.jxl_feed.specs.Fed.{toldFed}
 use Rattle.jxl_feed.specs.declared.Fed.{Fed}
 use Rattle.jxl_feed.proofs.Fed as S
+use Rattle.jxl_feed.proofs.Methods.{mach}
 use Rattle.jxl_feed.proofs.feed_bytes as feed
 use Rattle.jxl_feed.proofs.feed_bytes.Symbol.{name as #jxl-feed·feed-bytes}
 
--- a parser's machine value, and the slice's
-abbrev pub mach : ContainerParser → Val
-mach = LL.val P.the-type P′.the-laws
-
+-- a slice's machine value
 abbrev pub bytes : RefT (List ℕ) → Val
 bytes s = sliceVal (s .ptr) (length (s .now))
 

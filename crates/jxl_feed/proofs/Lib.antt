@@ -1,4 +1,4 @@
 mod FirstStep
 pub mod Lending
-mod Telling
+pub mod Methods
 pub mod Unique
