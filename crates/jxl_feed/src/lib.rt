@@ -86,7 +86,7 @@ pub fn kind_of_file(input: &[u8]) -> BitstreamKind
     parser.kind()
 }
 
-// Whether a file starts with a container's signature. A caller of what lends a parser has no parser in its contract, and its proof no walk.
+// Whether a file starts with a container's signature. Nothing here is lent but the bytes, so its proof needs no walk.
 pub fn is_container(input: &[u8]) -> bool
     ensures { λ r. ⌜ r ≡ starts containerSig (now (input .entry)) ⌝ }
 {

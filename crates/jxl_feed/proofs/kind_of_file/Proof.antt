@@ -1,5 +1,4 @@
--- `jxl_feed::kind_of_file` meets its contract: a walk of its MIR, by hand. `ContainerParser::new` makes the parser, which lies in a local and is lent to `feed_bytes` for a lifetime of that call; it comes back as `feed_bytes` leaves it, and `ContainerParser::kind` is called on it.
--- All that the proof knows of the three is that each meets its contract.
+-- `jxl_feed::kind_of_file` meets its contract: a walk of its MIR, by hand, in three steps that Methods.antt and Lending.antt have: `news` makes the parser, `feeds` lends the local that holds it to `feed_bytes`, and `tells` reads the kind of what comes back.
 -- Assumes nothing.
 use mathlib.Core.Path.{_≡_, refl, _∙_}
 use Prim.Native.Nat.{ℕ}
