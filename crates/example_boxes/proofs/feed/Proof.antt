@@ -1,0 +1,118 @@
+-- `feed` is safe and ends: each turn but the last takes one event of those that the input still has.
+-- Assumes nothing.
+use mathlib.Core.Path.{ap}
+use Prim.Native.Nat.{_≤_}
+use native.Mathlib.Omega.{arith}
+use lib.ListN.{length}
+use denote.Ref.{now}
+use borrow.Author.Needs.{needs}
+use Rattle.jxl_payloads.specs.Told.{told}
+use Rattle.jxl_grammar.specs.Feeding.{Seen}
+use Rattle.jxl_listed.proofs.Text.{count, far, shown-fits, wants-fits, refuses-fits, taken-shown}
+use Rattle.example_boxes.proofs.feed.Statement.{statement}
+use Rattle.example_boxes.proofs.feed.Tie as tie
+
+abbrev Inv-loop : tie.InvT-loop
+Inv-loop input p₀ at₀ p at = at ≤ length input
+
+abbrev μ-loop : tie.MeasureT-loop
+μ-loop input p₀ at₀ p at = count p at input
+
+loop-holds : tie.Need-loop-holds Inv-loop μ-loop
+loop-holds c = search needs
+
+sub-step : tie.Need-sub-step Inv-loop μ-loop
+sub-step c = search needs
+
+part-step-start : tie.Need-part-step-start Inv-loop μ-loop
+part-step-start c = search needs
+
+part-step-end : tie.Need-part-step-end Inv-loop μ-loop
+part-step-end c = search needs
+
+step-requires : tie.Need-step-requires Inv-loop μ-loop
+step-requires c κs = search needs
+
+enum-known-next : tie.Need-enum-known-next Inv-loop μ-loop
+enum-known-next c = search needs
+
+print-requires : tie.Need-print-requires Inv-loop μ-loop
+print-requires c κs = search needs
+
+add-at : tie.Need-add-at Inv-loop μ-loop
+add-at c =
+    let l = c .before .before .before .before .before .before .loop in
+    let f = now (c .before .before .before .before .before .before .before .before .args .input) in
+    let s = far (l .p) f (l .at) (l .inv) (c .before .before .before .before .step .ensures) (ap told (c .before .before .next .given .1)) in
+    omega (arith, shown-fits (l .p) f (l .at) (l .inv) s .1)
+
+loop-less : tie.Need-loop-less Inv-loop μ-loop
+loop-less c =
+    let l = c .before .before .before .before .before .before .loop in
+    let f = now (c .before .before .before .before .before .before .before .before .args .input) in
+    let s = far (l .p) f (l .at) (l .inv) (c .before .before .before .before .step .ensures) (ap told (c .before .before .next .given .1)) in
+    omega (arith, ap (λ (x : Seen). length (x .shown)) (taken-shown (l .p) f (l .at) s))
+
+loop-again : tie.Need-loop-again Inv-loop μ-loop
+loop-again c =
+    let l = c .before .before .before .before .before .before .loop in
+    let f = now (c .before .before .before .before .before .before .before .before .args .input) in
+    let s = far (l .p) f (l .at) (l .inv) (c .before .before .before .before .step .ensures) (ap told (c .before .before .next .given .1)) in
+    shown-fits (l .p) f (l .at) (l .inv) s .1
+
+enum-known-next-2 : tie.Need-enum-known-next-2 Inv-loop μ-loop
+enum-known-next-2 c = search needs
+
+add-t18 : tie.Need-add-t18 Inv-loop μ-loop
+add-t18 c =
+    let l = c .before .before .before .before .before .loop in
+    let f = now (c .before .before .before .before .before .before .before .args .input) in
+    let s = far (l .p) f (l .at) (l .inv) (c .before .before .before .step .ensures) (ap told (c .before .next2 .given .1)) in
+    omega (arith, wants-fits (l .p) f (l .at) (l .inv) s)
+
+returns : tie.Need-returns Inv-loop μ-loop
+returns c =
+    let l = c .before .before .before .before .before .loop in
+    let f = now (c .before .before .before .before .before .before .before .args .input) in
+    let s = far (l .p) f (l .at) (l .inv) (c .before .before .before .step .ensures) (ap told (c .before .next2 .given .1)) in
+    wants-fits (l .p) f (l .at) (l .inv) s
+
+enum-known-next-3 : tie.Need-enum-known-next-3 Inv-loop μ-loop
+enum-known-next-3 c = search needs
+
+add-t19 : tie.Need-add-t19 Inv-loop μ-loop
+add-t19 c =
+    let l = c .before .before .before .before .before .loop in
+    let f = now (c .before .before .before .before .before .before .before .args .input) in
+    let s = far (l .p) f (l .at) (l .inv) (c .before .before .before .step .ensures) (ap told (c .before .next3 .given .1)) in
+    omega (arith, refuses-fits (l .p) f (l .at) (l .inv) s)
+
+returns-2 : tie.Need-returns-2 Inv-loop μ-loop
+returns-2 c =
+    let l = c .before .before .before .before .before .loop in
+    let f = now (c .before .before .before .before .before .before .before .args .input) in
+    let s = far (l .p) f (l .at) (l .inv) (c .before .before .before .step .ensures) (ap told (c .before .next3 .given .1)) in
+    refuses-fits (l .p) f (l .at) (l .inv) s
+
+pub feed-spec : {M : Type 1} → statement M
+feed-spec =
+    tie.close
+    (tie.spec
+    Inv-loop
+    μ-loop
+    loop-holds
+    sub-step
+    part-step-start
+    part-step-end
+    step-requires
+    enum-known-next
+    print-requires
+    add-at
+    loop-less
+    loop-again
+    enum-known-next-2
+    add-t18
+    returns
+    enum-known-next-3
+    add-t19
+    returns-2)

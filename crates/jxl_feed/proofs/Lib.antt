@@ -1,0 +1,4 @@
+mod FirstStep
+pub mod Lending
+pub mod Methods
+pub mod Unique

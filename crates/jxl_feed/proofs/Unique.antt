@@ -1,0 +1,39 @@
+-- Two answers that meet a promise are equal.
+use mathlib.Core.Path.{_≡_, sym, _∙_}
+use Rattle.jxl_base.proofs.OneAnswer.{one-named}
+use Rattle.jxl_headers.specs.Bytes.{starts}
+use Rattle.jxl_headers.specs.Refusals.{why}
+use Rattle.jxl_headers.specs.Signature.{containerSig}
+use Rattle.jxl_headers.proofs.Header.{why-one}
+use Rattle.jxl_record.specs.Record.{kindOf}
+use Rattle.jxl_record.specs.declared.ContainerParser.{ContainerParser}
+use Rattle.jxl_feed.specs.Fed.{kindOfFile, toldFed}
+use Rattle.jxl_feed.specs.Theorems.{OneFeedBytes, OneIsContainer, OneKindLent, OneKindOfFile}
+use Rattle.jxl_feed.specs.declared.Fed.{Fed}
+use Rattle.jxl_feed.specs.declared.Fed.the-variants as A
+
+told-one : (x y : Fed) (q r : ContainerParser) → toldFed x q ≡ toldFed y r → (x ≡ y) × (q ≡ r)
+told-one (A.Shown e n) (A.Shown f m) q r h = (cc, cc)
+told-one (A.Shown e n) (A.Want m) q r h = (cc, cc)
+told-one (A.Shown e n) (A.Refused u m) q r h = (cc, cc)
+told-one (A.Want n) (A.Shown f m) q r h = (cc, cc)
+told-one (A.Want n) (A.Want m) q r h = (cc, cc)
+told-one (A.Want n) (A.Refused u m) q r h = (cc, cc)
+told-one (A.Refused w n) (A.Shown f m) q r h = (cc, cc)
+told-one (A.Refused w n) (A.Want m) q r h = (cc, cc)
+told-one (A.Refused w n) (A.Refused u m) q r h =
+    let same : why w ≡ why u = cc in
+    let name : w ≡ u = why-one w u same in
+    (cc, cc)
+
+pub one-feed-bytes : OneFeedBytes
+one-feed-bytes p s x y q r a b = told-one x y q r (a ∙ sym b)
+
+pub one-kind-lent : OneKindLent
+one-kind-lent p = one-named (kindOf p)
+
+pub one-kind-of-file : OneKindOfFile
+one-kind-of-file s = one-named (kindOfFile s)
+
+pub one-is-container : OneIsContainer
+one-is-container s = one-named (starts containerSig s)

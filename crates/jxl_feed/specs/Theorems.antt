@@ -1,0 +1,27 @@
+-- One answer: each promise determines what its function gives, and what it leaves behind the lent reference; proofs/Unique.antt.
+use mathlib.Core.Path.{_≡_}
+use mathlib.Core.List.{List}
+use Prim.Native.Nat.{ℕ}
+use Rattle.jxl_base.specs.OneAnswer.{OneAnswer}
+use Rattle.jxl_headers.specs.Bytes.{starts}
+use Rattle.jxl_headers.specs.Signature.{containerSig}
+use Rattle.jxl_record.specs.Record.{kindOf}
+use Rattle.jxl_record.specs.declared.ContainerParser.{ContainerParser}
+use Rattle.jxl_grammar.specs.Step.{stepOf}
+use Rattle.jxl_feed.specs.Fed.{kindOfFile, toldFed}
+use Rattle.jxl_feed.specs.declared.Fed.{Fed}
+
+-- the answer, and the parser where it stands
+abbrev pub OneFeedBytes : Type 0
+OneFeedBytes =
+    (p : ContainerParser) (s : List ℕ) (x y : Fed) (q r : ContainerParser) → toldFed x q ≡ stepOf p s → toldFed y r ≡ stepOf p s
+    → (x ≡ y) × (q ≡ r)
+
+abbrev pub OneKindLent : Type 0
+OneKindLent = (p : ContainerParser) → OneAnswer (λ r. r ≡ kindOf p)
+
+abbrev pub OneKindOfFile : Type 0
+OneKindOfFile = (s : List ℕ) → OneAnswer (λ r. r ≡ kindOfFile s)
+
+abbrev pub OneIsContainer : Type 0
+OneIsContainer = (s : List ℕ) → OneAnswer (λ r. r ≡ starts containerSig s)

@@ -1,0 +1,99 @@
+// The parser lent by `&mut` and changed in place, under the Rust's name: a thin call over the step by value.
+use jxl_container::BitstreamKind;
+use jxl_container::BoxRefusal;
+use jxl_container::ContainerParser;
+use jxl_container::ParseEvent;
+use jxl_container::StepResult;
+ghost use mathlib.Core.Path.{_≡_};
+ghost use Rattle.jxl_headers.specs.Bytes.{starts};
+ghost use Rattle.jxl_headers.specs.Signature.{containerSig};
+ghost use Rattle.jxl_record.specs.Record as Record;
+ghost use Rattle.jxl_grammar.specs.Step.{stepOf};
+ghost use Rattle.jxl_feed.specs.Fed.{kindOfFile, toldFed};
+
+// A step's answer without the parser.
+pub enum Fed {
+    Shown {
+        event: ParseEvent,
+        consumed: usize,
+    },
+    Want {
+        consumed: usize,
+    },
+    Refused {
+        refusal: BoxRefusal,
+        consumed: usize,
+    },
+}
+
+// A step's answer, with the parser apart from the rest.
+struct Apart {
+    next: ContainerParser,
+    fed: Fed,
+}
+
+// A step, its parser taken apart from the rest of its answer.
+fn step_apart(input: &[u8], parser: ContainerParser) -> Apart
+    ensures { λ r. ⌜ toldFed (r .fed) (r .next) ≡ stepOf parser (now (input .entry)) ⌝ }
+{
+    match jxl_container::step(parser, input) {
+        StepResult::Shown {
+            event,
+            next,
+            consumed,
+        } => Apart {
+            next,
+            fed: Fed::Shown { event, consumed },
+        },
+        StepResult::Want { next, consumed } => Apart {
+            next,
+            fed: Fed::Want { consumed },
+        },
+        StepResult::Refused {
+            refusal,
+            next,
+            consumed,
+        } => Apart {
+            next,
+            fed: Fed::Refused { refusal, consumed },
+        },
+    }
+}
+
+// One step of the parser where it stands.
+pub fn feed_bytes<'p, 's>(parser: &'p mut ContainerParser, input: &'s [u8]) -> Fed
+    ensures { λ r. ⌜ toldFed r (now (parser .exit)) ≡ stepOf (now (parser .entry)) (now (input .entry)) ⌝ }
+{
+    let t = step_apart(input, *parser);
+    *parser = t.next;
+    t.fed
+}
+
+// The kind of bitstream that a lent parser tells.
+pub fn kind(parser: &ContainerParser) -> BitstreamKind
+    ensures { λ r. ⌜ r ≡ Record.kindOf (now (parser .entry)) ⌝ }
+{
+    let p = *parser;
+    p.kind()
+}
+
+// The kind of a file by its first bytes: unknown where they are too few to tell. The parser lent here is this function's own.
+pub fn kind_of_file(input: &[u8]) -> BitstreamKind
+    ensures { λ r. ⌜ r ≡ kindOfFile (now (input .entry)) ⌝ }
+{
+    let mut parser = ContainerParser::new();
+    feed_bytes(&mut parser, input);
+    parser.kind()
+}
+
+// Whether a file starts with a container's signature. Nothing here is lent but the bytes, so its proof needs no walk.
+pub fn is_container(input: &[u8]) -> bool
+    ensures { λ r. ⌜ r ≡ starts containerSig (now (input .entry)) ⌝ }
+{
+    match kind_of_file(input) {
+        BitstreamKind::Container => true,
+        BitstreamKind::BareCodestream => false,
+        BitstreamKind::Invalid => false,
+        BitstreamKind::Unknown => false,
+    }
+}
