@@ -1,0 +1,73 @@
+// The fields through a struct that holds the slice and the bit position. Each call is the call by position, thinly.
+use jxl_fields::U32Specifier;
+use jxl_results::ResultBool;
+use jxl_results::ResultF32;
+use jxl_results::ResultU32;
+use jxl_results::ResultU64;
+use jxl_results::ResultUnit;
+ghost use mathlib.Core.Path.{_≡_};
+ghost use Rattle.jxl_bits.specs.Readers as R;
+ghost use Rattle.jxl_fields.specs.Fields as F;
+ghost use Rattle.jxl_results.specs.Results.{u32At, u64At, boolAt, unitAt, f32At};
+ghost use Rattle.jxl_reader.specs.Reading.{Reads};
+
+// A slice, and a bit position in it.
+pub struct Bitstream<'a> {
+    bytes: &'a [u8],
+    at: usize,
+}
+
+impl<'a> Bitstream<'a> {
+    pub fn new(bytes: &'a [u8]) -> Bitstream<'a>
+        ensures { λ r. ⌜ (r .bytes ≡ bytes .entry) × (r .at ≡ 0) ⌝ }
+    {
+        Bitstream { bytes, at: 0 }
+    }
+
+    // The count of bits read: the position as it stands.
+    pub fn num_read_bits(&self) -> usize
+        ensures { λ r. ⌜ r ≡ now (self .entry) .at ⌝ }
+    {
+        self.at
+    }
+
+    // The next `n` bits, up to 32, with missing bits as 0. Nothing is consumed.
+    pub fn peek_bits(&mut self, n: usize) -> ResultU32
+        ensures { λ r. ⌜ Reads u32At (R.peek n) (now (self .entry)) (now (self .exit)) r ⌝ }
+    {
+        let answer = jxl_bits::peek_bits(self.bytes, self.at, n);
+        let split = jxl_results::split_u32(answer);
+        self.at = split.at;
+        split.result
+    }
+
+    // `Bool`: 1 bit.
+    pub fn read_bool(&mut self) -> ResultBool
+        ensures { λ r. ⌜ Reads boolAt R.bool (now (self .entry)) (now (self .exit)) r ⌝ }
+    {
+        let answer = jxl_bits::read_bool(self.bytes, self.at);
+        let split = jxl_results::split_bool(answer);
+        self.at = split.at;
+        split.result
+    }
+
+    // `U32`: one of four choices.
+    pub fn read_u32(&mut self, d: [U32Specifier; 4]) -> ResultU32
+        ensures { λ r. ⌜ Reads u32At (F.u32 d) (now (self .entry)) (now (self .exit)) r ⌝ }
+    {
+        let answer = jxl_fields::read_u32(self.bytes, self.at, d);
+        let split = jxl_results::split_u32(answer);
+        self.at = split.at;
+        split.result
+    }
+
+    // `Enum`: a value that the caller's list must hold.
+    pub fn read_enum(&mut self, list: &[u32]) -> ResultU32
+        ensures { λ r. ⌜ Reads u32At (F.enumOf (now (list .entry))) (now (self .entry)) (now (self .exit)) r ⌝ }
+    {
+        let answer = jxl_fields::read_enum(self.bytes, self.at, list);
+        let split = jxl_results::split_u32(answer);
+        self.at = split.at;
+        split.result
+    }
+}
