@@ -41,12 +41,42 @@ impl<'a> Bitstream<'a> {
         split.result
     }
 
-    // `Bool`: 1 bit.
-    pub fn read_bool(&mut self) -> ResultBool
-        ensures { λ r. ⌜ Reads boolAt R.bool (now (self .entry)) (now (self .exit)) r ⌝ }
+    // Moves on by `n`, up to 32; where fewer bits are left it stays.
+    pub fn consume_bits(&mut self, n: usize) -> ResultUnit
+        ensures { λ r. ⌜ Reads unitAt (R.consume n) (now (self .entry)) (now (self .exit)) r ⌝ }
     {
-        let answer = jxl_bits::read_bool(self.bytes, self.at);
-        let split = jxl_results::split_bool(answer);
+        let answer = jxl_bits::consume_bits(self.bytes, self.at, n);
+        let split = jxl_results::split_unit(answer);
+        self.at = split.at;
+        split.result
+    }
+
+    // The next `n` bits, up to 32.
+    pub fn read_bits(&mut self, n: usize) -> ResultU32
+        ensures { λ r. ⌜ Reads u32At (R.read n) (now (self .entry)) (now (self .exit)) r ⌝ }
+    {
+        let answer = jxl_bits::read_bits(self.bytes, self.at, n);
+        let split = jxl_results::split_u32(answer);
+        self.at = split.at;
+        split.result
+    }
+
+    // Moves on by `n`; where fewer bits are left it goes to the end.
+    pub fn skip_bits(&mut self, n: usize) -> ResultUnit
+        ensures { λ r. ⌜ Reads unitAt (R.skip n) (now (self .entry)) (now (self .exit)) r ⌝ }
+    {
+        let answer = jxl_bits::skip_bits(self.bytes, self.at, n);
+        let split = jxl_results::split_unit(answer);
+        self.at = split.at;
+        split.result
+    }
+
+    // `ZeroPadToByte`.
+    pub fn zero_pad_to_byte(&mut self) -> ResultUnit
+        ensures { λ r. ⌜ Reads unitAt R.pad (now (self .entry)) (now (self .exit)) r ⌝ }
+    {
+        let answer = jxl_bits::zero_pad_to_byte(self.bytes, self.at);
+        let split = jxl_results::split_unit(answer);
         self.at = split.at;
         split.result
     }
@@ -57,6 +87,36 @@ impl<'a> Bitstream<'a> {
     {
         let answer = jxl_fields::read_u32(self.bytes, self.at, d);
         let split = jxl_results::split_u32(answer);
+        self.at = split.at;
+        split.result
+    }
+
+    // `U64`: at most 73 bits.
+    pub fn read_u64(&mut self) -> ResultU64
+        ensures { λ r. ⌜ Reads u64At F.u64 (now (self .entry)) (now (self .exit)) r ⌝ }
+    {
+        let answer = jxl_fields::read_u64(self.bytes, self.at);
+        let split = jxl_results::split_u64(answer);
+        self.at = split.at;
+        split.result
+    }
+
+    // `Bool`: 1 bit.
+    pub fn read_bool(&mut self) -> ResultBool
+        ensures { λ r. ⌜ Reads boolAt R.bool (now (self .entry)) (now (self .exit)) r ⌝ }
+    {
+        let answer = jxl_bits::read_bool(self.bytes, self.at);
+        let split = jxl_results::split_bool(answer);
+        self.at = split.at;
+        split.result
+    }
+
+    // `F16`, as an f32.
+    pub fn read_f16_as_f32(&mut self) -> ResultF32
+        ensures { λ r. ⌜ Reads f32At F.f16 (now (self .entry)) (now (self .exit)) r ⌝ }
+    {
+        let answer = jxl_fields::read_f16_as_f32(self.bytes, self.at);
+        let split = jxl_results::split_f32(answer);
         self.at = split.at;
         split.result
     }
