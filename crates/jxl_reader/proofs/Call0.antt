@@ -36,7 +36,7 @@ use denote.Triple.Statement.{Contract, Triple}
 use denote.Triple.Table.{entered, cited}
 use denote.Triple.Walked.{says, Stays, stay-ref, stay-none, walkOf, goes-none, goes-ref, Walks, ends-at, walked, walk-meets}
 use Rattle.jxl_bits.specs.Answer.{Answer, Field}
-use Rattle.jxl_reader.specs.Reading.{Reads}
+use Rattle.jxl_reader.specs.Through.{Through}
 use Rattle.jxl_reader.specs.declared.Bitstream.{Bitstream}
 use Rattle.jxl_reader.proofs.Bitstream as T
 use Rattle.jxl_reader.proofs.Reading as Law
@@ -55,7 +55,7 @@ module _ {M : Type 1} {𝓤 : URA M} {H : Heap 𝓤} {A : Atoms 𝓤} (X : Shape
   this0 = record { signature = record { lifetimes = 2; outlives = record { long = 1; long-ok = tt; short = 0; short-ok = tt } ∷ []; params = RefMutOf (0 ∷ []) tt behind (λ _. tt) ∷ []; result = plain (λ _. X .Res) }; kept = (yes, tt) }
 
   abbrev pub this0-clauses : Field (X .X) → Clauses 𝓤 this0
-  this0-clauses field κs a = record { ghost = Unit {0}; requires = λ _. emp 𝓤; ensures = λ _ r e. fact 𝓤 (Reads (X .resultAt) field (now (a .0)) (now (e .0)) r) }
+  this0-clauses field κs a = record { ghost = Unit {0}; requires = λ _. emp 𝓤; ensures = λ _ r e. fact 𝓤 (Through (X .resultAt) field (now (a .0)) (now (e .0)) r) }
 
   abbrev pub code0 : Name → Name → Fn
   code0 key key′ = reading0 key key′ (X .mGot) (pair (X .νPair) (X .mRes)) (X .mRes)

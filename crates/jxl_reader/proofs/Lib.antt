@@ -3,3 +3,4 @@ pub mod Shapes
 pub mod Call0
 pub mod Call1
 pub mod Params
+pub mod Unique

@@ -9,7 +9,7 @@ ghost use mathlib.Core.Path.{_≡_};
 ghost use Rattle.jxl_bits.specs.Readers as R;
 ghost use Rattle.jxl_fields.specs.Fields as F;
 ghost use Rattle.jxl_results.specs.Results.{u32At, u64At, boolAt, unitAt, f32At};
-ghost use Rattle.jxl_reader.specs.Reading.{Reads};
+ghost use Rattle.jxl_reader.specs.Through.{Through};
 
 // A slice, and a bit position in it.
 pub struct Bitstream<'a> {
@@ -33,7 +33,7 @@ impl<'a> Bitstream<'a> {
 
     // The next `n` bits, up to 32, with missing bits as 0. Nothing is consumed.
     pub fn peek_bits(&mut self, n: usize) -> ResultU32
-        ensures { λ r. ⌜ Reads u32At (R.peek n) (now (self .entry)) (now (self .exit)) r ⌝ }
+        ensures { λ r. ⌜ Through u32At (R.peek n) (now (self .entry)) (now (self .exit)) r ⌝ }
     {
         let answer = jxl_bits::peek_bits(self.bytes, self.at, n);
         let split = jxl_results::split_u32(answer);
@@ -43,7 +43,7 @@ impl<'a> Bitstream<'a> {
 
     // Moves on by `n`, up to 32; where fewer bits are left it stays.
     pub fn consume_bits(&mut self, n: usize) -> ResultUnit
-        ensures { λ r. ⌜ Reads unitAt (R.consume n) (now (self .entry)) (now (self .exit)) r ⌝ }
+        ensures { λ r. ⌜ Through unitAt (R.consume n) (now (self .entry)) (now (self .exit)) r ⌝ }
     {
         let answer = jxl_bits::consume_bits(self.bytes, self.at, n);
         let split = jxl_results::split_unit(answer);
@@ -53,7 +53,7 @@ impl<'a> Bitstream<'a> {
 
     // The next `n` bits, up to 32.
     pub fn read_bits(&mut self, n: usize) -> ResultU32
-        ensures { λ r. ⌜ Reads u32At (R.read n) (now (self .entry)) (now (self .exit)) r ⌝ }
+        ensures { λ r. ⌜ Through u32At (R.read n) (now (self .entry)) (now (self .exit)) r ⌝ }
     {
         let answer = jxl_bits::read_bits(self.bytes, self.at, n);
         let split = jxl_results::split_u32(answer);
@@ -63,7 +63,7 @@ impl<'a> Bitstream<'a> {
 
     // Moves on by `n`; where fewer bits are left it goes to the end.
     pub fn skip_bits(&mut self, n: usize) -> ResultUnit
-        ensures { λ r. ⌜ Reads unitAt (R.skip n) (now (self .entry)) (now (self .exit)) r ⌝ }
+        ensures { λ r. ⌜ Through unitAt (R.skip n) (now (self .entry)) (now (self .exit)) r ⌝ }
     {
         let answer = jxl_bits::skip_bits(self.bytes, self.at, n);
         let split = jxl_results::split_unit(answer);
@@ -73,7 +73,7 @@ impl<'a> Bitstream<'a> {
 
     // `ZeroPadToByte`.
     pub fn zero_pad_to_byte(&mut self) -> ResultUnit
-        ensures { λ r. ⌜ Reads unitAt R.pad (now (self .entry)) (now (self .exit)) r ⌝ }
+        ensures { λ r. ⌜ Through unitAt R.pad (now (self .entry)) (now (self .exit)) r ⌝ }
     {
         let answer = jxl_bits::zero_pad_to_byte(self.bytes, self.at);
         let split = jxl_results::split_unit(answer);
@@ -83,7 +83,7 @@ impl<'a> Bitstream<'a> {
 
     // `U32`: one of four choices.
     pub fn read_u32(&mut self, d: [U32Specifier; 4]) -> ResultU32
-        ensures { λ r. ⌜ Reads u32At (F.u32 d) (now (self .entry)) (now (self .exit)) r ⌝ }
+        ensures { λ r. ⌜ Through u32At (F.u32 d) (now (self .entry)) (now (self .exit)) r ⌝ }
     {
         let answer = jxl_fields::read_u32(self.bytes, self.at, d);
         let split = jxl_results::split_u32(answer);
@@ -93,7 +93,7 @@ impl<'a> Bitstream<'a> {
 
     // `U64`: at most 73 bits.
     pub fn read_u64(&mut self) -> ResultU64
-        ensures { λ r. ⌜ Reads u64At F.u64 (now (self .entry)) (now (self .exit)) r ⌝ }
+        ensures { λ r. ⌜ Through u64At F.u64 (now (self .entry)) (now (self .exit)) r ⌝ }
     {
         let answer = jxl_fields::read_u64(self.bytes, self.at);
         let split = jxl_results::split_u64(answer);
@@ -103,7 +103,7 @@ impl<'a> Bitstream<'a> {
 
     // `Bool`: 1 bit.
     pub fn read_bool(&mut self) -> ResultBool
-        ensures { λ r. ⌜ Reads boolAt R.bool (now (self .entry)) (now (self .exit)) r ⌝ }
+        ensures { λ r. ⌜ Through boolAt R.bool (now (self .entry)) (now (self .exit)) r ⌝ }
     {
         let answer = jxl_bits::read_bool(self.bytes, self.at);
         let split = jxl_results::split_bool(answer);
@@ -113,7 +113,7 @@ impl<'a> Bitstream<'a> {
 
     // `F16`, as an f32.
     pub fn read_f16_as_f32(&mut self) -> ResultF32
-        ensures { λ r. ⌜ Reads f32At F.f16 (now (self .entry)) (now (self .exit)) r ⌝ }
+        ensures { λ r. ⌜ Through f32At F.f16 (now (self .entry)) (now (self .exit)) r ⌝ }
     {
         let answer = jxl_fields::read_f16_as_f32(self.bytes, self.at);
         let split = jxl_results::split_f32(answer);
@@ -123,7 +123,7 @@ impl<'a> Bitstream<'a> {
 
     // `Enum`: a value that the caller's list must hold.
     pub fn read_enum(&mut self, list: &[u32]) -> ResultU32
-        ensures { λ r. ⌜ Reads u32At (F.enumOf (now (list .entry))) (now (self .entry)) (now (self .exit)) r ⌝ }
+        ensures { λ r. ⌜ Through u32At (F.enumOf (now (list .entry))) (now (self .entry)) (now (self .exit)) r ⌝ }
     {
         let answer = jxl_fields::read_enum(self.bytes, self.at, list);
         let split = jxl_results::split_u32(answer);
