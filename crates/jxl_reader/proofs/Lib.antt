@@ -4,3 +4,4 @@ pub mod Call0
 pub mod Call1
 pub mod Params
 pub mod Unique
+pub mod Owner

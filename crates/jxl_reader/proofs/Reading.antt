@@ -21,7 +21,7 @@ use types.Run.{look, init, forget, stop, hop, fld, from, load, of-opd, and-then,
 use types.SemTy.{Body}
 use sound.WpLaws.{FmC}
 use denote.RattleType.{RattleType, owns}
-use denote.Laws.{Is, Makes, shows}
+use denote.Laws.{Is, Tells, Makes, shows}
 use denote.Memory.{mem, cellAt, pointee}
 use denote.Plain.{uint-makes}
 use denote.Builtin.{u8, usize}
@@ -75,6 +75,7 @@ pub record Shape {M : Type 1} (𝓤 : URA M) (H : Heap 𝓤) (A : Atoms 𝓤) : 
   pub within : (r : Pair .Denot) (u : Val) → Is Pair r (u ∷ []) → pos r < 2 ^ 64
   pub is-res : (r : Pair .Denot) (u : Val) → Is Pair r (u ∷ []) → Is Res (res r) (val (res r) ∷ [])
   pub typed-res : (a : Res .Denot) → Is Res a (val a ∷ []) → Holds (hasTy mRes (val a)) × WT (val a)
+  pub tells-res : Tells Res (Is Res) (λ a. val a ∷ [])
   pub makes : Makes 𝓤 H A Res (Is Res)
 
 -- the contract of the function that splits an answer

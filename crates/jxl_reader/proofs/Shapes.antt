@@ -67,6 +67,7 @@ module _ {M : Type 1} (𝓤 : URA M) (H : Heap 𝓤) (A : Atoms 𝓤) (W : Given
     within = λ r u is. LL.owed P-unit.the-type P-unit′.the-laws r _ is .0 .1;
     is-res = λ r u is. LL.owed P-unit.the-type P-unit′.the-laws r _ is .1 .0;
     typed-res = λ a is. EL.lawful R-unit.the-type R-unit′.the-laws 𝓤 H A W tt .typed a _ is .0;
+    tells-res = EL.tells R-unit.the-type R-unit′.the-laws;
     makes = EL.makes R-unit.the-type R-unit′.the-plain 𝓤 H A;
   }
 
@@ -90,6 +91,7 @@ module _ {M : Type 1} (𝓤 : URA M) (H : Heap 𝓤) (A : Atoms 𝓤) (W : Given
     within = λ r u is. LL.owed P-bool.the-type P-bool′.the-laws r _ is .0 .1;
     is-res = λ r u is. LL.owed P-bool.the-type P-bool′.the-laws r _ is .1 .0;
     typed-res = λ a is. EL.lawful R-bool.the-type R-bool′.the-laws 𝓤 H A W tt .typed a _ is .0;
+    tells-res = EL.tells R-bool.the-type R-bool′.the-laws;
     makes = EL.makes R-bool.the-type R-bool′.the-plain 𝓤 H A;
   }
 
@@ -113,6 +115,7 @@ module _ {M : Type 1} (𝓤 : URA M) (H : Heap 𝓤) (A : Atoms 𝓤) (W : Given
     within = λ r u is. LL.owed P-u32.the-type P-u32′.the-laws r _ is .0 .1;
     is-res = λ r u is. LL.owed P-u32.the-type P-u32′.the-laws r _ is .1 .0;
     typed-res = λ a is. EL.lawful R-u32.the-type R-u32′.the-laws 𝓤 H A W tt .typed a _ is .0;
+    tells-res = EL.tells R-u32.the-type R-u32′.the-laws;
     makes = EL.makes R-u32.the-type R-u32′.the-plain 𝓤 H A;
   }
 
@@ -136,6 +139,7 @@ module _ {M : Type 1} (𝓤 : URA M) (H : Heap 𝓤) (A : Atoms 𝓤) (W : Given
     within = λ r u is. LL.owed P-u64.the-type P-u64′.the-laws r _ is .0 .1;
     is-res = λ r u is. LL.owed P-u64.the-type P-u64′.the-laws r _ is .1 .0;
     typed-res = λ a is. EL.lawful R-u64.the-type R-u64′.the-laws 𝓤 H A W tt .typed a _ is .0;
+    tells-res = EL.tells R-u64.the-type R-u64′.the-laws;
     makes = EL.makes R-u64.the-type R-u64′.the-plain 𝓤 H A;
   }
 
@@ -159,5 +163,6 @@ module _ {M : Type 1} (𝓤 : URA M) (H : Heap 𝓤) (A : Atoms 𝓤) (W : Given
     within = λ r u is. LL.owed P-f32.the-type P-f32′.the-laws r _ is .0 .1;
     is-res = λ r u is. LL.owed P-f32.the-type P-f32′.the-laws r _ is .1 .0;
     typed-res = λ a is. EL.lawful R-f32.the-type R-f32′.the-laws 𝓤 H A W tt .typed a _ is .0;
+    tells-res = EL.tells R-f32.the-type R-f32′.the-laws;
     makes = EL.makes R-f32.the-type R-f32′.the-plain 𝓤 H A;
   }
