@@ -46,10 +46,13 @@ use Rattle.jxl_fields.specs.Fields as F
 use Rattle.jxl_fields.specs.declared.U32Specifier.{U32Specifier}
 use Rattle.jxl_fields.proofs.U32Specifier as U
 use Rattle.jxl_fields.proofs.U32Specifier.Laws as U′
-use Rattle.jxl_results.specs.Results.{u32At}
+use Rattle.jxl_results.specs.Results.{u32At, boolAt, unitAt}
+use Rattle.jxl_results.specs.declared.ResultBool.the-variants as B′
 use Rattle.jxl_results.specs.declared.ResultBool.{ResultBool}
 use Rattle.jxl_results.specs.declared.ResultU32.{ResultU32}
+use Rattle.jxl_results.specs.declared.ResultUnit.the-variants as M
 use Rattle.jxl_results.specs.declared.ResultUnit.{ResultUnit}
+use Rattle.jxl_reader.specs.Through.{Through}
 use Rattle.jxl_reader.specs.declared.Bitstream.{Bitstream}
 use Rattle.jxl_reader.proofs.Bitstream as T
 use Rattle.jxl_reader.proofs.Bitstream.Laws as T′
@@ -68,7 +71,7 @@ use Rattle.jxl_reader.proofs.Owner.{Place, Has, Lies, lies-in, lies-out, Gave, 
 use Rattle.jxl_reader.proofs.Params as P
 use Rattle.jxl_reader.proofs.Reading.{B}
 use Rattle.jxl_reader.proofs.Shapes as S
-use Rattle.example_fields.specs.InTurn.{InTurn}
+use Rattle.example_fields.specs.InTurn.{leaves, afterSkip, afterFlag, InTurn}
 use Rattle.example_fields.specs.declared.Fields.{Fields}
 use Rattle.example_fields.proofs.Fields as D
 use Rattle.example_fields.proofs.Fields.Laws as D′
@@ -76,6 +79,14 @@ use Rattle.example_fields.proofs.flag_and_u32.Key.{name}
 use Rattle.example_fields.proofs.flag_and_u32 as this
 use Rattle.example_fields.proofs.flag_and_u32.Statement.{statement}
 use Rattle.example_fields.proofs.flag_and_u32.Code as code
+
+leaves-unit : (r : ResultUnit) (p : ℕ) → leaves (unitAt r p) ≡ p
+leaves-unit M.Done p = refl
+leaves-unit (M.Refused r) p = refl
+
+leaves-bool : (r : ResultBool) (p : ℕ) → leaves (boolAt r p) ≡ p
+leaves-bool (B′.Value v) p = refl
+leaves-bool (B′.Refused r) p = refl
 
 abbrev stayed : Stays (this.ended .signature .params) (this.ended .kept)
 stayed = (stay-none-slice (0 ∷ []) tt (plain (λ _. u8)) yes, (stay-none (λ _. usize) yes, (stay-none (λ _. Array U.the-row 4) yes, tt)))
@@ -144,15 +155,20 @@ module _ {M : Type 1} (𝓤 : URA M) (H : Heap 𝓤) (A : Atoms 𝓤) (W : Given
         nothing ! $ move ! (1 ∷ 0 ∷ []) $ join ! $ frame ! $ fjoin ! $ owned ! D.the-row (Is D.the-row) (LL.makes D.the-type D′.the-plain 𝓤 H A) r _ is $ move ! (1 ∷ 0 ∷ []) $ done !
 
     -- what the calls said, in turn
+    skipped : (h₀ h₁ : Bitstream) (r : Fields) → Made h₀ → Through unitAt (R.skip n) h₀ h₁ (r .start) → unitAt (r .start) (h₁ .at) ≡ R.skip n (now s) 0
+    skipped h₀ h₁ r e₀ e₁ = e₁ .1 ∙ ap (λ (x : RefT (List ℕ)). R.skip n (now x) (h₀ .at)) (e₀ .0) ∙ ap (R.skip n (now s)) (e₀ .1)
+
     in-turn : (b : ℕ) (h₀ h₁ h₂ h₃ : Bitstream) (r : Fields) (u₁ u₂ u₃ : Val) → Made h₀ → Gave (S.unit 𝓤 H A W) (place b h₀) (R.skip n) u₁ (r .start) h₁ → Gave (S.bool 𝓤 H A W) (place b h₁) R.bool u₂ (r .flag) h₂
         → Gave (S.u32 𝓤 H A W) (place b h₂) (F.u32 d) u₃ (r .value) h₃ → r .bits ≡ h₃ .at → InTurn (now s) n d r
-    in-turn b h₀ h₁ h₂ h₃ r u₁ u₂ u₃ e₀ e₁ e₂ e₃ e₄ = record {
-      p = h₁ .at;
-      q = h₂ .at;
-      skipped = e₁ .through .1 ∙ ap (λ (x : RefT (List ℕ)). R.skip n (now x) (h₀ .at)) (e₀ .0) ∙ ap (R.skip n (now s)) (e₀ .1);
-      flagged = e₂ .through .1 ∙ ap (λ (x : RefT (List ℕ)). R.bool (now x) (h₁ .at)) (e₁ .through .0 ∙ e₀ .0);
-      valued = ap (u32At (r .value)) e₄ ∙ e₃ .through .1 ∙ ap (λ (x : RefT (List ℕ)). F.u32 d (now x) (h₂ .at)) (e₂ .through .0 ∙ e₁ .through .0 ∙ e₀ .0);
-    }
+    in-turn b h₀ h₁ h₂ h₃ r u₁ u₂ u₃ e₀ e₁ e₂ e₃ e₄ =
+        let at₁ : h₁ .at ≡ afterSkip (now s) n = sym (leaves-unit (r .start) (h₁ .at)) ∙ ap leaves (skipped h₀ h₁ r e₀ (e₁ .through)) in
+        let f₂ : boolAt (r .flag) (h₂ .at) ≡ R.bool (now s) (afterSkip (now s) n) = e₂ .through .1 ∙ ap (λ (x : RefT (List ℕ)). R.bool (now x) (h₁ .at)) (e₁ .through .0 ∙ e₀ .0) ∙ ap (R.bool (now s)) at₁ in
+        let at₂ : h₂ .at ≡ afterFlag (now s) n = sym (leaves-bool (r .flag) (h₂ .at)) ∙ ap leaves f₂ in
+        record {
+          start = ap (unitAt (r .start)) (sym at₁) ∙ skipped h₀ h₁ r e₀ (e₁ .through);
+          flag = ap (boolAt (r .flag)) (sym at₂) ∙ f₂;
+          value = ap (u32At (r .value)) e₄ ∙ e₃ .through .1 ∙ ap (λ (x : RefT (List ℕ)). F.u32 d (now x) (h₂ .at)) (e₂ .through .0 ∙ e₁ .through .0 ∙ e₀ .0) ∙ ap (F.u32 d (now s)) at₂;
+        }
 
     module _ (C : Calls 𝓤 H) (Λ : Loops 𝓤 H) (fm : FmC 𝓤 H (W .laws) C) (known-new : Triple 𝓤 (C new-def.name) New) (known-skip : Triple 𝓤 (C skip-def.name) Skip) (known-bool : Triple 𝓤 (C bool-def.name) Flag)
         (known-u32 : Triple 𝓤 (C u32-def.name) U32) (known-count : Triple 𝓤 (C count-def.name) (OnCount 𝓤 H A)) where
