@@ -9,12 +9,12 @@ use Rattle.jxl_bits.specs.Readers as R
 use Rattle.jxl_fields.specs.Fields as F
 use Rattle.jxl_fields.specs.declared.U32Specifier.{U32Specifier}
 use Rattle.jxl_results.specs.Results.{u32At, u64At, boolAt, unitAt, f32At}
-use Rattle.jxl_reader.specs.Through.{Through}
+use Rattle.jxl_reader.specs.Through.{Made, Through}
 use Rattle.jxl_reader.specs.declared.Bitstream.{Bitstream}
 
 -- ---- one answer
 abbrev pub OneNew : Type 0
-OneNew = (bytes : RefT (List ℕ)) → OneAnswer (λ (r : Bitstream). (r .bytes ≡ bytes) × (r .at ≡ 0))
+OneNew = (bytes : RefT (List ℕ)) → OneAnswer (Made bytes)
 
 abbrev pub OneNumReadBits : Type 0
 OneNumReadBits = (was : Bitstream) → OneAnswer (λ (r : ℕ). r ≡ was .at)

@@ -9,7 +9,7 @@ ghost use mathlib.Core.Path.{_≡_};
 ghost use Rattle.jxl_bits.specs.Readers as R;
 ghost use Rattle.jxl_fields.specs.Fields as F;
 ghost use Rattle.jxl_results.specs.Results.{u32At, u64At, boolAt, unitAt, f32At};
-ghost use Rattle.jxl_reader.specs.Through.{Through};
+ghost use Rattle.jxl_reader.specs.Through.{Made, Through};
 
 // A slice, and a bit position in it.
 pub struct Bitstream<'a> {
@@ -19,7 +19,7 @@ pub struct Bitstream<'a> {
 
 impl<'a> Bitstream<'a> {
     pub fn new(bytes: &'a [u8]) -> Bitstream<'a>
-        ensures { λ r. ⌜ (r .bytes ≡ bytes .entry) × (r .at ≡ 0) ⌝ }
+        ensures { λ r. ⌜ Made (bytes .entry) r ⌝ }
     {
         Bitstream { bytes, at: 0 }
     }

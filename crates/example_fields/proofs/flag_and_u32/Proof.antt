@@ -52,7 +52,7 @@ use Rattle.jxl_results.specs.declared.ResultBool.{ResultBool}
 use Rattle.jxl_results.specs.declared.ResultU32.{ResultU32}
 use Rattle.jxl_results.specs.declared.ResultUnit.the-variants as M
 use Rattle.jxl_results.specs.declared.ResultUnit.{ResultUnit}
-use Rattle.jxl_reader.specs.Through.{Through}
+use Rattle.jxl_reader.specs.Through.{Made, Through}
 use Rattle.jxl_reader.specs.declared.Bitstream.{Bitstream}
 use Rattle.jxl_reader.proofs.Bitstream as T
 use Rattle.jxl_reader.proofs.Bitstream.Laws as T′
@@ -139,11 +139,8 @@ module _ {M : Type 1} (𝓤 : URA M) (H : Heap 𝓤) (A : Atoms 𝓤) (W : Given
     goes-new : ent 𝓤 (⋆ 𝓤 H A ((‵ (flft κ q) ⊛ ‵ ftrue) ∷ ‵ (fsep Sl ftrue) ∷ [])) (New .pre to-new)
     goes-new = qed W ((‵ (flft κ q) ⊛ ‵ ftrue) ∷ ‵ (fsep Sl ftrue) ∷ []) ∵ join ! $ frame ! $ done !
 
-    abbrev Made : Bitstream → Type 0
-    Made h = (h .bytes ≡ s) × (h .at ≡ 0)
-
-    new-said : (h : Bitstream) → ent 𝓤 (ensured 𝓤 H A new.ended (new.clauses 𝓤 H A mem run) (κ, tt) (s, tt) tt h) (fact 𝓤 (Made h))
-    new-said h = exE 𝓤 _ (λ ws. snd∗ 𝓤 (sem 𝓤 H A (lasts new.ended (κ, tt) (s, tt) ws)) (fact 𝓤 (Made h)))
+    new-said : (h : Bitstream) → ent 𝓤 (ensured 𝓤 H A new.ended (new.clauses 𝓤 H A mem run) (κ, tt) (s, tt) tt h) (fact 𝓤 (Made s h))
+    new-said h = exE 𝓤 _ (λ ws. snd∗ 𝓤 (sem 𝓤 H A (lasts new.ended (κ, tt) (s, tt) ws)) (fact 𝓤 (Made s h)))
 
     abbrev mach : Fields → Val
     mach r = only (LL.vals D.the-type D′.the-laws r)
@@ -155,10 +152,10 @@ module _ {M : Type 1} (𝓤 : URA M) (H : Heap 𝓤) (A : Atoms 𝓤) (W : Given
         nothing ! $ move ! (1 ∷ 0 ∷ []) $ join ! $ frame ! $ fjoin ! $ owned ! D.the-row (Is D.the-row) (LL.makes D.the-type D′.the-plain 𝓤 H A) r _ is $ move ! (1 ∷ 0 ∷ []) $ done !
 
     -- what the calls said, in turn
-    skipped : (h₀ h₁ : Bitstream) (r : Fields) → Made h₀ → Through unitAt (R.skip n) h₀ h₁ (r .start) → unitAt (r .start) (h₁ .at) ≡ R.skip n (now s) 0
+    skipped : (h₀ h₁ : Bitstream) (r : Fields) → Made s h₀ → Through unitAt (R.skip n) h₀ h₁ (r .start) → unitAt (r .start) (h₁ .at) ≡ R.skip n (now s) 0
     skipped h₀ h₁ r e₀ e₁ = e₁ .1 ∙ ap (λ (x : RefT (List ℕ)). R.skip n (now x) (h₀ .at)) (e₀ .0) ∙ ap (R.skip n (now s)) (e₀ .1)
 
-    in-turn : (b : ℕ) (h₀ h₁ h₂ h₃ : Bitstream) (r : Fields) (u₁ u₂ u₃ : Val) → Made h₀ → Gave (S.unit 𝓤 H A W) (place b h₀) (R.skip n) u₁ (r .start) h₁ → Gave (S.bool 𝓤 H A W) (place b h₁) R.bool u₂ (r .flag) h₂
+    in-turn : (b : ℕ) (h₀ h₁ h₂ h₃ : Bitstream) (r : Fields) (u₁ u₂ u₃ : Val) → Made s h₀ → Gave (S.unit 𝓤 H A W) (place b h₀) (R.skip n) u₁ (r .start) h₁ → Gave (S.bool 𝓤 H A W) (place b h₁) R.bool u₂ (r .flag) h₂
         → Gave (S.u32 𝓤 H A W) (place b h₂) (F.u32 d) u₃ (r .value) h₃ → r .bits ≡ h₃ .at → InTurn (now s) n d r
     in-turn b h₀ h₁ h₂ h₃ r u₁ u₂ u₃ e₀ e₁ e₂ e₃ e₄ =
         let at₁ : h₁ .at ≡ afterSkip (now s) n = sym (leaves-unit (r .start) (h₁ .at)) ∙ ap leaves (skipped h₀ h₁ r e₀ (e₁ .through)) in
@@ -182,7 +179,7 @@ module _ {M : Type 1} (𝓤 : URA M) (H : Heap 𝓤) (A : Atoms 𝓤) (W : Given
           move ! (31 ∷ 0 ∷ []) $ use2 W (raw (New .pre to-new)) goes-new $
           calls-at ! fm New known-new to-new (and-then ! (load ! (from ! (stop !)) (look ! 27 refl)) (no-more !)) (λ u.
           use1 W (later (some (λ (h : Bitstream). ((‵ (flft κ q) ⊛ ‵ ftrue) ⊛ ‵ (B κ .own h (u ∷ []))) ⊛ raw (ensured 𝓤 H A new.ended (new.clauses 𝓤 H A mem run) (κ, tt) (s, tt) tt h)))) (id⊢ 𝓤 _) $ await ! tt $ pick ! (λ h₀.
-          split ! $ move ! (1 ∷ []) $ use1 W (raw (fact 𝓤 (Made h₀))) (new-said h₀) $ heard ! (Made h₀) (λ e₀. split ! $ split ! $ move ! (2 ∷ []) $
+          split ! $ move ! (1 ∷ []) $ use1 W (raw (fact 𝓤 (Made s h₀))) (new-said h₀) $ heard ! (Made s h₀) (λ e₀. split ! $ split ! $ move ! (2 ∷ []) $
           -- [what the reader owns; the token; true; what bytes owns; More; _13; …]
           peeks ! (B κ) (Is (B κ)) (shows 𝓤 H A (B κ)) h₀ (u ∷ []) (λ is₀.
           land ! (from ! (stop !)) (init ! 13 refl (LL.lawful (T.the-type αᵉ) (T′.the-laws αᵉ) 𝓤 H A W .typed h₀ _ is₀ .0)) $
