@@ -34,13 +34,13 @@ use denote.Triple.Entry.{onEntry}
 use denote.Triple.Spec.{Meets, tripleOf}
 use denote.Triple.Statement.{Contract, Triple}
 use denote.Triple.Table.{entered, cited}
-use denote.Triple.Walked.{says, Stays, stay-ref, stay-none, walkOf, goes-none, goes-ref, Walks, ends-at, walked, walk-meets}
-use Rattle.jxl_bits.specs.Answer.{Answer, Field}
+use denote.Triple.Walked.{says, Stays, stay-ref, stay-none, walkOf, goes-none, goes-ref, ends-at, walked, walk-meets}
+use Rattle.jxl_bits.specs.Answer.{Field}
 use Rattle.jxl_reader.specs.Through.{Through}
 use Rattle.jxl_reader.specs.declared.Bitstream.{Bitstream}
 use Rattle.jxl_reader.proofs.Bitstream as T
 use Rattle.jxl_reader.proofs.Reading as Law
-use Rattle.jxl_reader.proofs.Reading.{B, Shape, Split, pair, reading0, reading1}
+use Rattle.jxl_reader.proofs.Reading.{B, Shape, Split, pair, reading1}
 
 -- the struct behind the reference
 abbrev pub behind : Slot 2

@@ -15,7 +15,7 @@ use prog.Wp.{Heap}
 use ghost.Atoms.{Atoms, sem}
 use contract.BorrowLft.{meet-⊑-left, meet-⊑-right}
 use contract.Monad.{Fun, fact}
-use types.Kit.{Given, ‵, raw, _⊛_, ⋆, some, later, _$_, _∵_, !, qed, move, keep, drop, use1, use2, use3, split, split3, join, pick, fsplit, fjoin, fpick, fpack, apply, frame, await, updating, now as at-once, show, done}
+use types.Kit.{Given, ‵, raw, _⊛_, ⋆, some, later, _$_, _∵_, !, qed, move, keep, use1, use2, use3, split, split3, join, pick, fsplit, fjoin, fpick, fpack, apply, frame, await, updating, now as at-once, show, done}
 use types.SemTy.{Body}
 use types.Tokens.{lft-new, lft-end}
 use denote.Lend.{lends-ref, ref-back, lends-shr}

@@ -18,6 +18,7 @@ pub struct Bitstream<'a> {
 }
 
 impl<'a> Bitstream<'a> {
+    // A reader of the slice, at its first bit.
     pub fn new(bytes: &'a [u8]) -> Bitstream<'a>
         ensures { λ r. ⌜ Made (bytes .entry) r ⌝ }
     {
