@@ -1,4 +1,5 @@
 // JPEG XL fields: the names of the Rust's crate, from one place. There is no code here.
+// By position:
 pub use jxl_bits::FieldRefusal;
 pub use jxl_bits::Moved;
 pub use jxl_bits::ReadBool;
@@ -19,3 +20,10 @@ pub use jxl_fields::read_u32;
 pub use jxl_fields::read_u64;
 pub use jxl_unpack::unpack_signed;
 pub use jxl_unpack::unpack_signed_u64;
+// Through the struct:
+pub use jxl_reader::Bitstream;
+pub use jxl_results::ResultBool;
+pub use jxl_results::ResultF32;
+pub use jxl_results::ResultU32;
+pub use jxl_results::ResultU64;
+pub use jxl_results::ResultUnit;

@@ -1,0 +1,147 @@
+// Answers of a field without the position, and the position beside them. The Rust has `BitstreamResult<T>`; here each `T` has its enum.
+use jxl_bits::FieldRefusal;
+use jxl_bits::Moved;
+use jxl_bits::ReadBool;
+use jxl_bits::ReadU32;
+use jxl_fields::ReadF16;
+use jxl_fields::ReadU64;
+ghost use mathlib.Core.Path.{_≡_};
+ghost use Rattle.jxl_bit_rules.specs.Told.{toldU32, toldBool, toldMoved};
+ghost use Rattle.jxl_field_rules.specs.Told.{toldU64, toldF16};
+ghost use Rattle.jxl_results.specs.Results.{u32At, u64At, boolAt, unitAt, f32At};
+
+pub enum ResultU32 {
+    Value(u32),
+    Refused(FieldRefusal),
+}
+
+pub enum ResultU64 {
+    Value(u64),
+    Refused(FieldRefusal),
+}
+
+pub enum ResultBool {
+    Value(bool),
+    Refused(FieldRefusal),
+}
+
+pub enum ResultUnit {
+    Done,
+    Refused(FieldRefusal),
+}
+
+pub enum ResultF32 {
+    Value(f32),
+    UnexpectedEof,
+    InvalidFloat,
+    TooLong,
+}
+
+// A result, and the position after the call.
+pub struct SplitU32 {
+    pub at: usize,
+    pub result: ResultU32,
+}
+
+pub struct SplitU64 {
+    pub at: usize,
+    pub result: ResultU64,
+}
+
+pub struct SplitBool {
+    pub at: usize,
+    pub result: ResultBool,
+}
+
+pub struct SplitUnit {
+    pub at: usize,
+    pub result: ResultUnit,
+}
+
+pub struct SplitF32 {
+    pub at: usize,
+    pub result: ResultF32,
+}
+
+pub fn split_u32(answer: ReadU32) -> SplitU32
+    ensures { λ r. ⌜ u32At (r .result) (r .at) ≡ toldU32 answer ⌝ }
+{
+    match answer {
+        ReadU32::Value(v, at) => SplitU32 {
+            at,
+            result: ResultU32::Value(v),
+        },
+        ReadU32::Refused(refusal, at) => SplitU32 {
+            at,
+            result: ResultU32::Refused(refusal),
+        },
+    }
+}
+
+pub fn split_u64(answer: ReadU64) -> SplitU64
+    ensures { λ r. ⌜ u64At (r .result) (r .at) ≡ toldU64 answer ⌝ }
+{
+    match answer {
+        ReadU64::Value(v, at) => SplitU64 {
+            at,
+            result: ResultU64::Value(v),
+        },
+        ReadU64::Refused(refusal, at) => SplitU64 {
+            at,
+            result: ResultU64::Refused(refusal),
+        },
+    }
+}
+
+pub fn split_bool(answer: ReadBool) -> SplitBool
+    ensures { λ r. ⌜ boolAt (r .result) (r .at) ≡ toldBool answer ⌝ }
+{
+    match answer {
+        ReadBool::Value(v, at) => SplitBool {
+            at,
+            result: ResultBool::Value(v),
+        },
+        ReadBool::Refused(refusal, at) => SplitBool {
+            at,
+            result: ResultBool::Refused(refusal),
+        },
+    }
+}
+
+pub fn split_unit(answer: Moved) -> SplitUnit
+    ensures { λ r. ⌜ unitAt (r .result) (r .at) ≡ toldMoved answer ⌝ }
+{
+    match answer {
+        Moved::To(at) => SplitUnit {
+            at,
+            result: ResultUnit::Done,
+        },
+        Moved::Refused(refusal, at) => SplitUnit {
+            at,
+            result: ResultUnit::Refused(refusal),
+        },
+    }
+}
+
+pub fn split_f32(answer: ReadF16) -> SplitF32
+    ensures { λ r. ⌜ f32At (r .result) (r .at) ≡ toldF16 answer ⌝ }
+{
+    match answer {
+        ReadF16::Value(x, at) => SplitF32 {
+            at,
+            result: ResultF32::Value(x),
+        },
+        ReadF16::UnexpectedEof(at) => SplitF32 {
+            at,
+            result: ResultF32::UnexpectedEof,
+        },
+        ReadF16::InvalidFloat(at) => SplitF32 {
+            at,
+            result: ResultF32::InvalidFloat,
+        },
+        ReadF16::TooLong(at) => SplitF32 {
+            at,
+            result: ResultF32::TooLong,
+        },
+    }
+}
