@@ -1,10 +1,10 @@
 // Answers of a field without the position, and the position beside them. The Rust has `BitstreamResult<T>`; here each `T` has its enum.
-use jxl_bits::FieldRefusal;
-use jxl_bits::Moved;
-use jxl_bits::ReadBool;
-use jxl_bits::ReadU32;
-use jxl_fields::ReadF16;
-use jxl_fields::ReadU64;
+use jxl_bit_rules::FieldRefusal;
+use jxl_bit_rules::Moved;
+use jxl_bit_rules::ReadBool;
+use jxl_bit_rules::ReadU32;
+use jxl_field_rules::ReadF16;
+use jxl_field_rules::ReadU64;
 ghost use mathlib.Core.Path.{_≡_};
 ghost use Rattle.jxl_bit_rules.specs.Told.{toldU32, toldBool, toldMoved};
 ghost use Rattle.jxl_field_rules.specs.Told.{toldU64, toldF16};
