@@ -1,7 +1,7 @@
 // All turns on a file, for the bench to call and time.
 use jxl_container::ContainerParser;
 use jxl_joiner::Joiner;
-use jxl_turns::TurnEnd;
+use jxl_list_turn::TurnEnd;
 ghost use Prim.Native.Nat.{_≤_};
 
 // Whether a turn ended because the next line has no room.
@@ -36,7 +36,7 @@ pub extern "C" fn bench_turns(file: &[u8], packet: usize, out: &mut [u8], most: 
         turns += 1;
         let from = place(written, out.len());
         let input = bench_parts::part(file, at, end);
-        let after = jxl_turns::turn(parser, joiner, at, input, &mut out[from..]);
+        let after = jxl_list_turn::turn(parser, joiner, at, input, &mut out[from..]);
         at = std::num::wrapping_add_usize(at, after.consumed);
         written = std::num::wrapping_add_usize(written, after.written);
         let why = after.end;

@@ -4,7 +4,7 @@ use jxl_container::ParseEvent;
 use jxl_container::StepResult;
 use jxl_lines::Line;
 use jxl_lines::StopWord;
-use jxl_listed::AfterStep;
+use jxl_list_rules::AfterStep;
 use jxl_listing::Put;
 ghost use mathlib.Core.Path.{_≡_};
 ghost use Prim.Native.Nat.{_+_, _-_, _^_, _≤_, _<_, min};
@@ -13,7 +13,7 @@ ghost use Rattle.jxl_events.specs.Event.{shifted};
 ghost use Rattle.jxl_lines.specs.Lines.{text};
 ghost use Rattle.jxl_lines.specs.Pasting.{pasted};
 ghost use Rattle.jxl_listing.specs.Putting.{leaves};
-ghost use Rattle.jxl_listed.specs.Listed.{fileText, listOf, nextOf, placeOf};
+ghost use Rattle.jxl_list_rules.specs.Listed.{fileText, listOf, nextOf, placeOf};
 
 // The event with `base` added to its place.
 fn place(event: ParseEvent, base: usize) -> ParseEvent

@@ -4,8 +4,8 @@ use jxl_joiner::Joiner;
 use jxl_joiner::MaybeEvent;
 use jxl_lines::Line;
 use jxl_lines::StopWord;
+use jxl_list_turn::TurnEnd;
 use jxl_listing::Put;
-use jxl_turns::TurnEnd;
 
 // What comes next: a turn on the bytes in the buffer, a read, or nothing.
 enum Next {
@@ -63,7 +63,7 @@ fn read_more(
     upto: usize,
     out: &mut [u8],
 ) -> usize {
-    let unread = jxl_keep::keep(buf, from, upto);
+    let unread = jxl_unread::keep(buf, from, upto);
     let got = libc::read(fd, &mut buf[unread..]);
     if got < 0 {
         os::fail(b"jxl-list: read");
@@ -116,7 +116,7 @@ fn list_through(fd: i32, buf: &mut [u8], out: &mut [u8]) {
         match next {
             Next::Turn => {
                 let input = part(buf, from, upto);
-                let after = jxl_turns::turn(parser, joiner, base, input, out);
+                let after = jxl_list_turn::turn(parser, joiner, base, input, out);
                 parser = after.parser;
                 joiner = after.joiner;
                 base = std::num::wrapping_add_usize(base, after.consumed);

@@ -8,7 +8,7 @@ use denote.Ref.{now}
 use borrow.Author.Needs.{needs}
 use Rattle.jxl_payloads.specs.Told.{told}
 use Rattle.jxl_grammar.specs.Feeding.{Seen}
-use Rattle.jxl_listed.proofs.Text.{count, far, shown-fits, wants-fits, refuses-fits, taken-shown}
+use Rattle.jxl_list_rules.proofs.Text.{count, far, shown-fits, wants-fits, refuses-fits, taken-shown}
 use Rattle.example_boxes.proofs.feed.Statement.{statement}
 use Rattle.example_boxes.proofs.feed.Tie as tie
 

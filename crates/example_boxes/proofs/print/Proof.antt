@@ -6,7 +6,7 @@ use lib.Seq.{length-take-le}
 use borrow.Author.Needs.{needs}
 use Rattle.jxl_listing.specs.Putting.{leaves}
 use Rattle.jxl_listing.specs.declared.Put.{Put}
-use Rattle.jxl_turns.proofs.Putting.{put-was}
+use Rattle.jxl_list_turn.proofs.Putting.{put-was}
 use Rattle.example_boxes.proofs.print.Statement.{statement}
 use Rattle.example_boxes.proofs.print.Tie as tie
 

@@ -5,8 +5,8 @@ use native.Mathlib.Omega.{arith}
 use denote.Ref.{now}
 use Rattle.jxl_listing.specs.Putting.{leaves}
 use Rattle.jxl_listing.specs.declared.Put.the-variants.{Written, NoRoom}
-use Rattle.jxl_listed.specs.Listed.{fileText}
-use Rattle.jxl_listed.proofs.Text.{list-fits, list-refused}
+use Rattle.jxl_list_rules.specs.Listed.{fileText}
+use Rattle.jxl_list_rules.proofs.Text.{list-fits, list-refused}
 use borrow.Author.Needs.{needs}
 use Rattle.jxl_list_file.proofs.list_file.Statement.{statement}
 use Rattle.jxl_list_file.proofs.list_file.Tie as tie

@@ -2,7 +2,7 @@ use mathlib.Core.Path.{ap}
 use native.Mathlib.Omega.{arith}
 use denote.Ref.{now}
 use Rattle.jxl_payloads.specs.Told.{told}
-use Rattle.jxl_listed.proofs.Text.{far, shown-fits, wants-fits, refuses-fits}
+use Rattle.jxl_list_rules.proofs.Text.{far, shown-fits, wants-fits, refuses-fits}
 use borrow.Author.Needs.{needs}
 use Rattle.jxl_list_file.proofs.next.Statement.{statement}
 use Rattle.jxl_list_file.proofs.next.Tie as tie

@@ -2,7 +2,7 @@ use Prim.Native.Nat.{_≤_}
 use native.Mathlib.Omega.{arith}
 use lib.ListN.{length}
 use denote.Ref.{now}
-use Rattle.jxl_keep.proofs.Moving.{kept-fits}
+use Rattle.jxl_unread.proofs.Moving.{kept-fits}
 use borrow.Author.Needs.{needs}
 use Rattle.jxl_stream.proofs.read_more.Statement.{statement}
 use Rattle.jxl_stream.proofs.read_more.Tie as tie

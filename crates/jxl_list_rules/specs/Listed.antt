@@ -1,0 +1,63 @@
+-- The text of a listing: of what was seen, and of a whole file.
+use mathlib.Core.List.{List, [], _∷_, _++_}
+use Prim.Native.Nat.{ℕ, _+_, _-_, _^_, min}
+use lib.Dec.{leb}
+use lib.ListN.{length}
+use Rattle.jxl_headers.specs.Bytes.{if}
+use Rattle.jxl_grammar.specs.Step.{Told, shows, wants, refuses, stepOf}
+use Rattle.jxl_events.specs.Event.{shifted}
+use Rattle.jxl_record.specs.declared.ContainerParser.{ContainerParser}
+use Rattle.jxl_events.specs.declared.ParseEvent.{ParseEvent}
+use Rattle.jxl_events.specs.declared.ParseEvent.the-variants as E
+use Rattle.jxl_grammar.specs.Grammar.{Listing, file}
+use Rattle.jxl_grammar.specs.Grammar as G
+use Rattle.jxl_lines.specs.Lines.{printed, text}
+use Rattle.jxl_lines.specs.Pasting.{pasted}
+use Rattle.jxl_listing.specs.Putting.{Outcome, leaves}
+use Rattle.jxl_lines.specs.declared.Line.the-variants as L
+use Rattle.jxl_lines.specs.declared.StopWord.{StopWord}
+use Rattle.jxl_lines.specs.declared.StopWord.the-variants as S
+use Rattle.jxl_listing.specs.declared.Put.the-variants.{Written, NoRoom}
+use Rattle.jxl_list_rules.specs.declared.AfterStep.{AfterStep}
+use Rattle.jxl_list_rules.specs.declared.AfterStep.the-variants as N
+
+abbrev pub stopOf : G.Stop → StopWord
+stopOf G.want = S.Want
+stopOf (G.refused w) = printed w
+
+abbrev pub texts : List ParseEvent → List ℕ
+texts [] = []
+texts (e ∷ es) = text (L.Shown e) ++ texts es
+
+-- a line for each event, and the stop
+abbrev pub listingText : Listing → List ℕ
+listingText l = texts (l .events) ++ text (L.Stopped (stopOf (l .stop)) (l .consumed))
+
+-- the listing of a whole file, which the grammar gives
+unfoldable pub fileText : List ℕ → List ℕ
+fileText s = listingText (file s)
+
+-- what comes next of an input that stands at `at`: an event with its place in the file, or the stop; and the record and the place then
+abbrev pub nextIn : ℕ → Told → AfterStep
+nextIn at (shows e q c) = N.Shown (shifted at e) q (at + c)
+nextIn at (wants q c) = N.Stopped S.Want q (at + c)
+nextIn at (refuses w q c) = N.Stopped (printed w) q (at + c)
+
+abbrev pub nextOf : ContainerParser → ℕ → List ℕ → AfterStep
+nextOf p at s = nextIn at (stepOf p s)
+
+-- the place of an event's payload
+abbrev pub placeOf : ParseEvent → ℕ
+placeOf (E.BitstreamKind k) = 0
+placeOf E.NoMoreAuxBox = 0
+placeOf (E.Codestream a n) = a
+placeOf (E.AuxBoxStart t b e) = 0
+placeOf (E.AuxBoxData t a n) = a
+placeOf (E.AuxBoxEnd t) = 0
+
+-- the listing put into a buffer if it fits; else the buffer stays as it was, and the room needed is told, at most the largest number
+-- of 64 bits
+unfoldable pub listOf : List ℕ → List ℕ → Outcome
+listOf d w =
+    if (leb (length w) (length d)) (leaves (Written (length w)) (pasted d 0 w))
+    (leaves (NoRoom (min (length w) (2 ^ 64 - 1))) d)
