@@ -2,17 +2,7 @@
 use jxl_container::ContainerParser;
 use jxl_container::ParseEvent;
 use jxl_container::StepResult;
-
-// The bytes from `at` up to `end`; none if they lie outside.
-pub fn part(file: &[u8], at: usize, end: usize) -> &[u8] {
-    if end < at {
-        return &file[0..0];
-    }
-    if file.len() < end {
-        return &file[0..0];
-    }
-    &file[at..end]
-}
+use jxl_slices::part;
 
 // Where a packet of `packet` bytes ends that begins at `end`; the last one ends with the file.
 pub fn packet_end(end: usize, packet: usize, len: usize) -> usize {

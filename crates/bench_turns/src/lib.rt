@@ -35,7 +35,7 @@ pub extern "C" fn bench_turns(file: &[u8], packet: usize, out: &mut [u8], most: 
     while turns < most {
         turns += 1;
         let from = place(written, out.len());
-        let input = bench_parts::part(file, at, end);
+        let input = jxl_slices::part(file, at, end);
         let after = jxl_list_turn::turn(parser, joiner, at, input, &mut out[from..]);
         at = std::num::wrapping_add_usize(at, after.consumed);
         written = std::num::wrapping_add_usize(written, after.written);

@@ -11,7 +11,7 @@ pub extern "C" fn bench_twice(file: &[u8], packet: usize, most: u64) -> u64 {
         next,
         consumed,
         event,
-    } = jxl_container::step(ContainerParser::new(), bench_parts::part(file, 0, end))
+    } = jxl_container::step(ContainerParser::new(), jxl_slices::part(file, 0, end))
     else {
         return 0;
     };

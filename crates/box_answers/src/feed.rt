@@ -4,6 +4,7 @@ use jxl_container::BitstreamKind;
 use jxl_container::ContainerParser;
 use jxl_container::ParseEvent;
 use jxl_container::StepResult;
+use jxl_slices::part;
 
 // The record, the bytes consumed, the kind that an event told, the place behind the answer so far, and how the last step ended.
 pub struct Feed {
@@ -25,17 +26,6 @@ pub fn start(parser: ContainerParser) -> Feed {
         stopped: false,
         refused: false,
     }
-}
-
-// The bytes from `at` up to `end`; none if they lie outside.
-pub fn part(s: &[u8], at: usize, end: usize) -> &[u8] {
-    if end < at {
-        return &s[0..0];
-    }
-    if s.len() < end {
-        return &s[0..0];
-    }
-    &s[at..end]
 }
 
 // Whether `shown` is `len` bytes long, and the bytes of the file at `at`.

@@ -7,7 +7,7 @@ pub fn put_file(file: &mut [u8], line: &[u8], from: usize) -> usize {
     let mut at = 0;
     let mut i = from;
     while i < line.len() {
-        let byte = replay_text::parse_hex(feed::part(line, i, i + 2), 0);
+        let byte = replay_text::parse_hex(jxl_slices::part(line, i, i + 2), 0);
         at = replay_text::put_byte(file, at, (byte.value % 256) as u8);
         i += 2;
     }

@@ -6,23 +6,13 @@ use jxl_lines::Line;
 use jxl_lines::StopWord;
 use jxl_list_turn::TurnEnd;
 use jxl_listing::Put;
+use jxl_slices::part;
 
 // What comes next: a turn on the bytes in the buffer, a read, or nothing.
 enum Next {
     Turn,
     Read,
     Nothing,
-}
-
-// The bytes from `from` up to `upto`; none if they lie outside.
-fn part(s: &[u8], from: usize, upto: usize) -> &[u8] {
-    if upto < from {
-        return &s[0..0];
-    }
-    if s.len() < upto {
-        return &s[0..0];
-    }
-    &s[from..upto]
 }
 
 // Puts a line behind `at`, and answers where the next one goes.

@@ -30,7 +30,7 @@ fn fed(name: &[u8], parser: ContainerParser, file: &[u8]) -> feed::Feed {
     let mut out = [0u8; 1024];
     let after = feed::packet(&mut out, file, file.len(), feed::start(parser));
     io::write_all(1, name);
-    io::write_all(1, feed::part(&out, 0, after.to));
+    io::write_all(1, jxl_slices::part(&out, 0, after.to));
     print_record(after.parser);
     after
 }
@@ -48,7 +48,7 @@ fn piece(parser: ContainerParser, file: &[u8]) {
 // One line of the list: `NAME: STATE LEFT BOXES HEX`, printed as far as its name and run; any other line is a heading.
 fn take_line(line: &[u8]) {
     let colon = replay_text::find(line, 0, b':');
-    io::write_all(1, feed::part(line, 0, colon));
+    io::write_all(1, jxl_slices::part(line, 0, colon));
     io::write_all(1, b"\n");
     if line.len() <= colon {
         return;
@@ -60,7 +60,7 @@ fn take_line(line: &[u8]) {
     let mut file = [0u8; 128];
     let n = box_answers::put_file(&mut file, line, std::num::wrapping_add_usize(hex, 1));
     let parser = record::parser(line, state, left, boxes);
-    piece(parser, feed::part(&file, 0, n));
+    piece(parser, jxl_slices::part(&file, 0, n));
 }
 
 // Goes through the list, line by line.
@@ -68,7 +68,7 @@ fn run(text: &[u8]) {
     let mut at = 0;
     while at < text.len() {
         let end = replay_text::line_end(text, at);
-        take_line(feed::part(text, at, end));
+        take_line(jxl_slices::part(text, at, end));
         at = end + 1;
     }
 }

@@ -41,12 +41,12 @@ fn print_differs(line: u64, differ: u64) {
 // Compares a line `CUTS = EVENTS` with what feeding the file in those packets gives.
 fn compare(line: &[u8], file: &[u8], tally: Tally) -> Tally {
     let equals = replay_text::find(line, 0, b'=');
-    let cuts = feed::part(line, 0, std::num::wrapping_sub_usize(equals, 1));
-    let told = feed::part(line, std::num::wrapping_add_usize(equals, 2), line.len());
+    let cuts = jxl_slices::part(line, 0, std::num::wrapping_sub_usize(equals, 1));
+    let told = jxl_slices::part(line, std::num::wrapping_add_usize(equals, 2), line.len());
     let mut out = [0u8; 1024];
     let n = feed::whole(&mut out, file, cuts);
     let mut differ = tally.differ;
-    if !check::same(feed::part(&out, 0, n), told) {
+    if !check::same(jxl_slices::part(&out, 0, n), told) {
         print_differs(std::num::wrapping_add_u64(tally.lines, 1), differ);
         differ = std::num::wrapping_add_u64(differ, 1);
     }
@@ -70,7 +70,7 @@ fn take_line(file: &mut [u8], line: &[u8], tally: Tally) -> Tally {
             differ: tally.differ,
         };
     }
-    compare(line, feed::part(file, 0, tally.file_len), tally)
+    compare(line, jxl_slices::part(file, 0, tally.file_len), tally)
 }
 
 // Goes through the list, line by line. A file of the list has at most 80 bytes.
@@ -86,7 +86,7 @@ fn replay(text: &[u8]) -> Tally {
     let mut at = 0;
     while at < text.len() {
         let end = replay_text::line_end(text, at);
-        tally = take_line(&mut file, feed::part(text, at, end), tally);
+        tally = take_line(&mut file, jxl_slices::part(text, at, end), tally);
         at = end + 1;
     }
     tally

@@ -1,21 +1,11 @@
 // Replays the Rust's stored answers of UnpackSigned: a line `32 HEX8 DEC` or `64 HEX16 DEC` for each. Prints the numbers of
 // the first lines that differ, then the counts.
+use jxl_slices::part;
 
 // The answers compared, and those that differ.
 struct Tally {
     answers: u64,
     differ: u64,
-}
-
-// The bytes from `at` up to `end`; none if they lie outside.
-fn part(s: &[u8], at: usize, end: usize) -> &[u8] {
-    if end < at {
-        return &s[0..0];
-    }
-    if s.len() < end {
-        return &s[0..0];
-    }
-    &s[at..end]
 }
 
 // Whether `x` is the number written in `told`. -m is the complement of m - 1.
