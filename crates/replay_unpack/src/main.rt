@@ -54,12 +54,12 @@ fn is_same(line: &[u8]) -> bool {
         line.len(),
     );
     if replay_text::byte_at(line, 0) == b'6' {
-        return is_i64(jxl_bitstream::unpack_signed_u64(x), told);
+        return is_i64(jxl_unpack::unpack_signed_u64(x), told);
     }
     if 0xffff_ffff < x {
         return false;
     }
-    is_i32(jxl_bitstream::unpack_signed(x as u32), told)
+    is_i32(jxl_unpack::unpack_signed(x as u32), told)
 }
 
 // Prints the number of a line that differs, for the first ten.
