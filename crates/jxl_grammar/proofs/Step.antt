@@ -12,14 +12,14 @@ use borrow.Author.Tests.{lt-ltb, le-ltb, le-leb, lt-leb, eq-eqb, ne-eqb}
 use Rattle.jxl_cuts.proofs.Ahead.{ahead-twice}
 use Rattle.jxl_events.proofs.Shifted.{shifted-zero, shifted-shifted}
 use Rattle.jxl_headers.specs.Bytes.{be32, empty}
-use Rattle.jxl_headers.specs.Reach.{less, toEnd}
+use Rattle.jxl_reach.specs.Reach.{less, toEnd}
 use Rattle.jxl_record.specs.Record.{at, refusedIn, isRefused, impossibleIn, impossible}
 use Rattle.jxl_headers.specs.Types.{jxlc, jxlp, brob, reserved}
 use Rattle.jxl_grammar.specs.Step.{Told, shows, wants, refuses, refuse, ahead, inCode, codePart, codeStep, row, indexStep, innerStep, jxlcStep, jxlpStep, brobStep, boxStep, stateStep, stepOf}
 use Rattle.jxl_events.specs.Event.{shifted}
 use Rattle.jxl_record.specs.declared.BitstreamKind.{BitstreamKind}
 use Rattle.jxl_record.specs.declared.BitstreamKind.the-variants as K
-use Rattle.jxl_headers.specs.declared.BytesLeft.{BytesLeft}
+use Rattle.jxl_reach.specs.declared.BytesLeft.{BytesLeft}
 use Rattle.jxl_record.specs.declared.JxlpIndexState.{JxlpIndexState}
 use Rattle.jxl_record.specs.declared.JxlpIndexState.the-variants.{Jxlp}
 use Rattle.jxl_record.specs.declared.DetectState.{DetectState}

@@ -1,6 +1,6 @@
 -- What a whole file lists: document 01, "Boxes", as a grammar of bytes. It knows nothing of steps, packets or a parser's state;
 -- with a step it shares the signature, the header, the box types, the reach of a payload and the refusals in the paper's words, all of
--- jxl_headers (`signatureOf`, `headerOf`, `Types`, `Reach`, `why`).
+-- jxl_headers (`signatureOf`, `headerOf`, `Types`, `why`) and jxl_reach (`Reach`).
 -- Each definition is one thing in a file that stands at `at`, with the bytes `s` from there to the end; `more` lists what follows it.
 -- A choice is an `elim`, which computes one branch alone; an `if` would compute both, and with them the boxes to the end twice.
 use mathlib.Core.Bool.{Bool, true, false}
@@ -13,15 +13,15 @@ pub use Rattle.jxl_cuts.specs.Feeding.{want, refused}
 use Rattle.jxl_headers.specs.Bytes.{be32}
 use Rattle.jxl_headers.specs.Signature.{signatureOf}
 use Rattle.jxl_headers.specs.Refusals.{Why, refusal, why}
-use Rattle.jxl_headers.specs.Reach.{under, less, toEnd}
+use Rattle.jxl_reach.specs.Reach.{under, less, toEnd}
 use Rattle.jxl_headers.specs.Types.{jxlc, jxlp, brob, reserved}
 use Rattle.jxl_headers.specs.Header.{Header, short, bad, box, headerOf}
 use Rattle.jxl_headers.specs.declared.consts.Signature.{Signature}
 use Rattle.jxl_headers.specs.declared.consts.Signature.the-variants as G
 use Rattle.jxl_record.specs.declared.BitstreamKind.{BitstreamKind}
 use Rattle.jxl_record.specs.declared.BitstreamKind.the-variants as K
-use Rattle.jxl_headers.specs.declared.BytesLeft.{BytesLeft}
-use Rattle.jxl_headers.specs.declared.BytesLeft.the-variants.{ToEnd, Bytes}
+use Rattle.jxl_reach.specs.declared.BytesLeft.{BytesLeft}
+use Rattle.jxl_reach.specs.declared.BytesLeft.the-variants.{ToEnd, Bytes}
 use Rattle.jxl_events.specs.declared.ParseEvent.{ParseEvent}
 use Rattle.jxl_events.specs.declared.ParseEvent.the-variants as E
 

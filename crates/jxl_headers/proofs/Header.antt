@@ -9,8 +9,8 @@ use lib.ListN.{length}
 use borrow.Author.Tests.{lt-ltb, le-ltb, eq-eqb, ne-eqb, ltb-true, ltb-false}
 use Rattle.jxl_headers.specs.Bytes.{if, be32, be64}
 use Rattle.jxl_headers.specs.Header.{Header, short, bad, box, headerOf, extended, ToldHeader, numbered}
-use Rattle.jxl_headers.specs.declared.BytesLeft.{BytesLeft}
-use Rattle.jxl_headers.specs.declared.BytesLeft.the-variants.{ToEnd, Bytes}
+use Rattle.jxl_reach.specs.declared.BytesLeft.{BytesLeft}
+use Rattle.jxl_reach.specs.declared.BytesLeft.the-variants.{ToEnd, Bytes}
 use Rattle.jxl_headers.specs.Refusals.{why}
 use Rattle.jxl_headers.specs.declared.BoxRefusal.{BoxRefusal}
 use Rattle.jxl_headers.specs.declared.BoxRefusal.the-variants.{InvalidBox, ValidationFailed}

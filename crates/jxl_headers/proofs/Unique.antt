@@ -4,9 +4,8 @@ use Rattle.jxl_base.proofs.OneAnswer.{one-named, one-told}
 use Rattle.jxl_headers.specs.Bytes.{be32}
 use Rattle.jxl_headers.specs.Signature.{signatureOf}
 use Rattle.jxl_headers.specs.Refusals.{why}
-use Rattle.jxl_headers.specs.Reach.{under, less, toEnd}
 use Rattle.jxl_headers.specs.Header.{headerOf, numbered, toldHeader}
-use Rattle.jxl_headers.specs.Theorems.{OneSignature, OneHeader, OneWord, OneUnder, OneLess, OneToEnd}
+use Rattle.jxl_headers.specs.Theorems.{OneSignature, OneHeader, OneWord}
 use Rattle.jxl_headers.proofs.Header.{why-one}
 use Rattle.jxl_headers.specs.declared.box_header.HeaderParseResult.{HeaderParseResult}
 use Rattle.jxl_headers.specs.declared.box_header.HeaderParseResult.the-variants as H
@@ -36,12 +35,3 @@ one-header s = one-told toldHeader header-one (numbered (headerOf s))
 
 pub one-word : OneWord
 one-word s at = one-named (be32 s at)
-
-pub one-under : OneUnder
-one-under l n = one-named (under n l)
-
-pub one-less : OneLess
-one-less l n = one-named (less l n)
-
-pub one-to-end : OneToEnd
-one-to-end l = one-named (toEnd l)

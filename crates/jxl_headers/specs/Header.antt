@@ -5,8 +5,8 @@ use lib.Dec.{ltb, eqb}
 use lib.ListN.{length}
 use Rattle.jxl_headers.specs.Bytes.{if, be32, be64}
 use Rattle.jxl_headers.specs.Refusals.{Why, why}
-use Rattle.jxl_headers.specs.declared.BytesLeft.{BytesLeft}
-use Rattle.jxl_headers.specs.declared.BytesLeft.the-variants.{ToEnd, Bytes}
+use Rattle.jxl_reach.specs.declared.BytesLeft.{BytesLeft}
+use Rattle.jxl_reach.specs.declared.BytesLeft.the-variants.{ToEnd, Bytes}
 use Rattle.jxl_headers.specs.declared.BoxRefusal.{BoxRefusal}
 use Rattle.jxl_headers.specs.declared.BoxRefusal.the-variants.{InvalidBox}
 use Rattle.jxl_headers.specs.declared.box_header.HeaderParseResult.{HeaderParseResult}

@@ -2,6 +2,5 @@ pub mod Bytes
 pub mod Signature
 pub mod Types
 pub mod Refusals
-pub mod Reach
 pub mod Header
 pub mod Theorems

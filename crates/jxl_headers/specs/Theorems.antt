@@ -5,9 +5,7 @@ use Prim.Native.Nat.{ℕ}
 use Rattle.jxl_base.specs.OneAnswer.{OneAnswer}
 use Rattle.jxl_headers.specs.Bytes.{be32}
 use Rattle.jxl_headers.specs.Signature.{signatureOf}
-use Rattle.jxl_headers.specs.Reach.{under, less, toEnd}
 use Rattle.jxl_headers.specs.Header.{headerOf, numbered, toldHeader}
-use Rattle.jxl_headers.specs.declared.BytesLeft.{BytesLeft}
 
 abbrev pub OneSignature : Type 0
 OneSignature = (s : List ℕ) → OneAnswer (λ r. r ≡ signatureOf s)
@@ -17,12 +15,3 @@ OneHeader = (s : List ℕ) → OneAnswer (λ r. toldHeader r ≡ numbered (heade
 
 abbrev pub OneWord : Type 0
 OneWord = (s : List ℕ) (at : ℕ) → OneAnswer (λ r. r ≡ be32 s at)
-
-abbrev pub OneUnder : Type 0
-OneUnder = (l : BytesLeft) (n : ℕ) → OneAnswer (λ r. r ≡ under n l)
-
-abbrev pub OneLess : Type 0
-OneLess = (l : BytesLeft) (n : ℕ) → OneAnswer (λ r. r ≡ less l n)
-
-abbrev pub OneToEnd : Type 0
-OneToEnd = (l : BytesLeft) → OneAnswer (λ r. r ≡ toEnd l)

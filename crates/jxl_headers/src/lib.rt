@@ -1,56 +1,11 @@
 // What the container's headers say: the two signatures, box types, one box header, how far a payload reaches, and why a parser refuses.
-ghost use mathlib.Core.Path.{_≡_};
-ghost use Rattle.jxl_headers.specs.Reach.{less, toEnd, under};
+pub use jxl_reach::BytesLeft;
 
 pub mod box_header;
 pub mod consts;
-
-// How far a payload reaches: to the end of the file, or so many bytes more.
-pub enum BytesLeft {
-    ToEnd,
-    Bytes(u64),
-}
 
 // Why a parser refuses. The number of each in the paper, and what it tells, is `why` of specs/Refusals.antt.
 pub enum BoxRefusal {
     InvalidBox,
     ValidationFailed,
-}
-
-impl BytesLeft {
-    // Whether the payload has fewer than `n` bytes.
-    pub fn under(self, n: u64) -> bool
-        ensures { λ r. ⌜ r ≡ under n self ⌝ }
-    {
-        match self {
-            BytesLeft::ToEnd => false,
-            BytesLeft::Bytes(m) => m < n,
-        }
-    }
-
-    // The payload behind its first `n` bytes.
-    pub fn less(self, n: u64) -> BytesLeft
-        ensures { λ r. ⌜ r ≡ less self n ⌝ }
-    {
-        match self {
-            BytesLeft::ToEnd => BytesLeft::ToEnd,
-            BytesLeft::Bytes(m) => {
-                if m < n {
-                    BytesLeft::Bytes(0)
-                } else {
-                    BytesLeft::Bytes(m - n)
-                }
-            }
-        }
-    }
-
-    // Whether the payload runs to the end of the file.
-    pub fn to_end(self) -> bool
-        ensures { λ r. ⌜ r ≡ toEnd self ⌝ }
-    {
-        match self {
-            BytesLeft::ToEnd => true,
-            BytesLeft::Bytes(_) => false,
-        }
-    }
 }

@@ -10,9 +10,9 @@ use lib.ListN.{length, drop}
 use lib.Seq.{drop-length}
 use borrow.Author.Tests.{lt-leb, lt-ltb, eq-eqb, ltb-true, ltb-false, eqb-true}
 use Rattle.jxl_headers.specs.Bytes.{if, and}
-use Rattle.jxl_headers.specs.Reach.{under, less}
-use Rattle.jxl_headers.specs.declared.BytesLeft.{BytesLeft}
-use Rattle.jxl_headers.specs.declared.BytesLeft.the-variants.{ToEnd, Bytes}
+use Rattle.jxl_reach.specs.Reach.{under, less}
+use Rattle.jxl_reach.specs.declared.BytesLeft.{BytesLeft}
+use Rattle.jxl_reach.specs.declared.BytesLeft.the-variants.{ToEnd, Bytes}
 use Rattle.jxl_record.specs.Record.{at, overIndex}
 use Rattle.jxl_grammar.specs.Step.{shows, wants, inCode, codePart, stepOf}
 use Rattle.jxl_grammar.proofs.Step.{code-shows, step-empty}

@@ -6,7 +6,7 @@ use Prim.Native.Nat.{ℕ, _+_, _^_}
 use lib.Dec.{eqb, ltb}
 use lib.ListN.{length}
 use Rattle.jxl_headers.specs.Bytes.{if, and}
-use Rattle.jxl_headers.specs.Reach.{under, less}
+use Rattle.jxl_reach.specs.Reach.{under, less}
 use Rattle.jxl_grammar.specs.Step.{inCode}
 use Rattle.jxl_record.specs.Record.{overIndex}
 use Rattle.jxl_record.specs.declared.JxlpIndexState.{JxlpIndexState}

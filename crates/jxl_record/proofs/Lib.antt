@@ -1,1 +1,2 @@
+mod Above
 pub mod Unique

@@ -3,7 +3,7 @@ use mathlib.Core.Bool.{Bool, true, false}
 use Prim.Native.Nat.{ℕ}
 use lib.Dec.{ltb, leb}
 use Rattle.jxl_headers.specs.Bytes.{or}
-use Rattle.jxl_headers.specs.Reach.{under}
+use Rattle.jxl_reach.specs.Reach.{under}
 use Rattle.jxl_record.specs.declared.BitstreamKind.{BitstreamKind}
 use Rattle.jxl_record.specs.declared.BitstreamKind.the-variants as K
 use Rattle.jxl_record.specs.declared.JxlpIndexState.{JxlpIndexState}

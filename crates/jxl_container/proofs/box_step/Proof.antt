@@ -11,17 +11,17 @@ jxlc-step-requires c κs = search needs
 returns : tie.Need-returns
 returns c = rw (box-jxlc _ _ _ _ (c .before .if1 .taken)) (c .jxlc-step .ensures)
 
-jxlp-step-requires : tie.Need-jxlp-step-requires
-jxlp-step-requires c κs = search needs
+four-step-requires : tie.Need-four-step-requires
+four-step-requires c κs = search needs
 
 returns-2 : tie.Need-returns-2
-returns-2 c = rw (box-jxlp _ _ _ _ (c .before .if2 .taken)) (c .jxlp-step .ensures)
+returns-2 c = rw (box-jxlp _ _ _ _ (c .before .if2 .taken)) (c .four-step .ensures)
 
-brob-step-requires : tie.Need-brob-step-requires
-brob-step-requires c κs = search needs
+four-step-requires-2 : tie.Need-four-step-requires-2
+four-step-requires-2 c κs = search needs
 
 returns-3 : tie.Need-returns-3
-returns-3 c = rw (box-brob _ _ _ _ (c .before .if3 .taken)) (c .brob-step .ensures)
+returns-3 c = rw (box-brob _ _ _ _ (c .before .if3 .taken)) (c .four-step2 .ensures)
 
 to-end-requires : tie.Need-to-end-requires
 to-end-requires c κs = search needs
@@ -39,9 +39,9 @@ box-step-spec =
     (tie.spec
     jxlc-step-requires
     returns
-    jxlp-step-requires
+    four-step-requires
     returns-2
-    brob-step-requires
+    four-step-requires-2
     returns-3
     to-end-requires
     at-requires

@@ -2,8 +2,8 @@
 use mathlib.Core.Bool.{Bool, true, false}
 use Prim.Native.Nat.{ℕ, _-_}
 use lib.Dec.{ltb}
-use Rattle.jxl_headers.specs.declared.BytesLeft.{BytesLeft}
-use Rattle.jxl_headers.specs.declared.BytesLeft.the-variants.{ToEnd, Bytes}
+use Rattle.jxl_reach.specs.declared.BytesLeft.{BytesLeft}
+use Rattle.jxl_reach.specs.declared.BytesLeft.the-variants.{ToEnd, Bytes}
 
 -- the payload has fewer than n bytes
 abbrev pub under : ℕ → BytesLeft → Bool

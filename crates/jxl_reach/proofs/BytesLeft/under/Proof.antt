@@ -1,6 +1,6 @@
 use borrow.Author.Needs.{needs}
-use Rattle.jxl_headers.proofs.BytesLeft.under.Statement.{statement}
-use Rattle.jxl_headers.proofs.BytesLeft.under.Tie as tie
+use Rattle.jxl_reach.proofs.BytesLeft.under.Statement.{statement}
+use Rattle.jxl_reach.proofs.BytesLeft.under.Tie as tie
 
 enum-told : tie.Need-enum-told
 enum-told c = search needs

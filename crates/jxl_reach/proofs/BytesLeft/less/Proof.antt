@@ -2,8 +2,8 @@ use mathlib.Core.Path.{_≡_}
 use Prim.Native.Nat.{_-_}
 use native.Mathlib.Omega.{arith}
 use borrow.Author.Needs.{needs}
-use Rattle.jxl_headers.proofs.BytesLeft.less.Statement.{statement}
-use Rattle.jxl_headers.proofs.BytesLeft.less.Tie as tie
+use Rattle.jxl_reach.proofs.BytesLeft.less.Statement.{statement}
+use Rattle.jxl_reach.proofs.BytesLeft.less.Tie as tie
 
 enum-told : tie.Need-enum-told
 enum-told c = search needs
