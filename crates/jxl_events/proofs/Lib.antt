@@ -1,3 +1,4 @@
+mod Bare
 pub mod Parts
 pub mod Shifted
 pub mod Unique

@@ -1,6 +1,6 @@
--- What a step shows: the payload that an event names, its length and its end, and the event further on.
+-- What a step shows: the payload that an event names, its length, its place and its end, and the event further on.
 use mathlib.Core.List.{List}
-use Prim.Native.Nat.{ℕ, _+_}
+use Prim.Native.Nat.{ℕ, _+_, _%_, _^_}
 use Rattle.jxl_cuts.specs.Machine.{Payload, none, bytes, bytesAt}
 use Rattle.jxl_events.specs.declared.ParseEvent.{ParseEvent}
 use Rattle.jxl_events.specs.declared.ParseEvent.the-variants as E
@@ -31,6 +31,15 @@ lengthOf (E.AuxBoxStart t c e) = 0
 lengthOf (E.AuxBoxData t a n) = n
 lengthOf (E.AuxBoxEnd t) = 0
 
+-- the place of an event's payload
+abbrev pub placeOf : ParseEvent → ℕ
+placeOf (E.BitstreamKind k) = 0
+placeOf E.NoMoreAuxBox = 0
+placeOf (E.Codestream a n) = a
+placeOf (E.AuxBoxStart t b e) = 0
+placeOf (E.AuxBoxData t a n) = a
+placeOf (E.AuxBoxEnd t) = 0
+
 -- the place behind an event's payload
 abbrev pub endOf : ParseEvent → ℕ
 endOf (E.BitstreamKind k) = 0
@@ -48,3 +57,12 @@ shifted n (E.Codestream a l) = E.Codestream (n + a) l
 shifted n (E.AuxBoxStart t b e) = E.AuxBoxStart t b e
 shifted n (E.AuxBoxData t a l) = E.AuxBoxData t (n + a) l
 shifted n (E.AuxBoxEnd t) = E.AuxBoxEnd t
+
+-- the same where places are counted modulo 2^64; the two agree where the place fits (`moved-fits`)
+abbrev pub moved : ℕ → ParseEvent → ParseEvent
+moved n (E.BitstreamKind k) = E.BitstreamKind k
+moved n E.NoMoreAuxBox = E.NoMoreAuxBox
+moved n (E.Codestream a l) = E.Codestream ((n + a) % 2 ^ 64) l
+moved n (E.AuxBoxStart t b e) = E.AuxBoxStart t b e
+moved n (E.AuxBoxData t a l) = E.AuxBoxData t ((n + a) % 2 ^ 64) l
+moved n (E.AuxBoxEnd t) = E.AuxBoxEnd t

@@ -3,7 +3,7 @@ use mathlib.Core.Path.{_≡_}
 use mathlib.Core.List.{List}
 use Prim.Native.Nat.{ℕ}
 use Rattle.jxl_base.specs.OneAnswer.{OneAnswer}
-use Rattle.jxl_events.specs.Event.{payloadOf}
+use Rattle.jxl_events.specs.Event.{payloadOf, moved}
 use Rattle.jxl_events.specs.Placing.{placing}
 use Rattle.jxl_events.specs.declared.ParseEvent.{ParseEvent}
 
@@ -12,3 +12,6 @@ OnePayload = (s : List ℕ) (e : ParseEvent) → OneAnswer (λ r. r ≡ payloadO
 
 abbrev pub OneWithPlace : Type 0
 OneWithPlace = (e : ParseEvent) (base : ℕ) → OneAnswer (λ r. r ≡ placing base e)
+
+abbrev pub OneMoved : Type 0
+OneMoved = (e : ParseEvent) (base : ℕ) → OneAnswer (λ r. r ≡ moved base e)

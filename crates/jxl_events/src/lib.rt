@@ -1,5 +1,6 @@
 // What a step shows: the parts of the input that events name, and an event's place in the file.
 use jxl_record::BitstreamKind;
+use std::num::wrapping_add_usize;
 ghost use mathlib.Core.Path.{_≡_};
 ghost use Prim.Native.Nat.{_+_, _^_};
 ghost use lib.Dec.{ltb};
@@ -57,14 +58,7 @@ pub fn payload(s: &[u8], event: ParseEvent) -> &[u8]
     match event {
         ParseEvent::Codestream { at, len } => part(s, at, len),
         ParseEvent::AuxBoxData { ty: _, at, len } => part(s, at, len),
-        ParseEvent::BitstreamKind(_) => &s[0..0],
-        ParseEvent::NoMoreAuxBox => &s[0..0],
-        ParseEvent::AuxBoxStart {
-            ty: _,
-            brotli_compressed: _,
-            last_box: _,
-        } => &s[0..0],
-        ParseEvent::AuxBoxEnd { ty: _ } => &s[0..0],
+        _ => &s[0..0],
     }
 }
 
@@ -76,40 +70,45 @@ fn fits(base: usize, a: usize, n: usize) -> bool
     if a <= room { n <= room - a } else { false }
 }
 
+// Whether the payload of `event`, counted from `base`, ends at 2^64 - 1 or before.
+fn near(event: ParseEvent, base: usize) -> bool
+    ensures { λ r. ⌜ r ≡ ltb (Spec.endOf (Spec.shifted base event)) (2 ^ 64) ⌝ }
+{
+    match event {
+        ParseEvent::Codestream { at, len } => return fits(base, at, len),
+        ParseEvent::AuxBoxData { ty: _, at, len } => return fits(base, at, len),
+        _ => return true,
+    }
+}
+
+// The event with `base` added to its place, modulo 2^64: no test, as a place that fits stays as it is.
+pub fn moved(event: ParseEvent, base: usize) -> ParseEvent
+    ensures { λ r. ⌜ r ≡ Spec.moved base event ⌝ }
+{
+    match event {
+        ParseEvent::Codestream { at, len } => {
+            return ParseEvent::Codestream {
+                at: wrapping_add_usize(base, at),
+                len,
+            };
+        }
+        ParseEvent::AuxBoxData { ty, at, len } => {
+            return ParseEvent::AuxBoxData {
+                ty,
+                at: wrapping_add_usize(base, at),
+                len,
+            };
+        }
+        _ => return event,
+    }
+}
+
 // The event of a step, whose input stands at `base` in the file, with its place in the file.
 pub fn with_place(event: ParseEvent, base: usize) -> Placed
     ensures { λ r. ⌜ r ≡ placing base event ⌝ }
 {
-    match event {
-        ParseEvent::Codestream { at, len } => {
-            if fits(base, at, len) {
-                Placed::At(ParseEvent::Codestream { at: base + at, len })
-            } else {
-                Placed::TooFar
-            }
-        }
-        ParseEvent::AuxBoxData { ty, at, len } => {
-            if fits(base, at, len) {
-                Placed::At(ParseEvent::AuxBoxData {
-                    ty,
-                    at: base + at,
-                    len,
-                })
-            } else {
-                Placed::TooFar
-            }
-        }
-        ParseEvent::BitstreamKind(k) => Placed::At(ParseEvent::BitstreamKind(k)),
-        ParseEvent::NoMoreAuxBox => Placed::At(ParseEvent::NoMoreAuxBox),
-        ParseEvent::AuxBoxStart {
-            ty,
-            brotli_compressed: brotli,
-            last_box: to_end,
-        } => Placed::At(ParseEvent::AuxBoxStart {
-            ty,
-            brotli_compressed: brotli,
-            last_box: to_end,
-        }),
-        ParseEvent::AuxBoxEnd { ty } => Placed::At(ParseEvent::AuxBoxEnd { ty }),
+    if near(event, base) {
+        return Placed::At(moved(event, base));
     }
+    Placed::TooFar
 }

@@ -1,1 +1,2 @@
+mod Parts
 pub mod Unique

@@ -1,8 +1,8 @@
 -- Two answers that meet a promise are equal.
 use mathlib.Core.Path.{sym, _∙_}
 use Rattle.jxl_base.proofs.OneAnswer.{one-named}
-use Rattle.jxl_joiner.specs.Joiner.{adding, mostEvents}
-use Rattle.jxl_joiner.specs.Theorems.{OneNew, OneAdd, OneFinish, OneMostEvents}
+use Rattle.jxl_joiner.specs.Joiner.{adding}
+use Rattle.jxl_joiner.specs.Theorems.{OneNew, OneAdd, OneFinish}
 
 pub one-new : OneNew
 one-new x y p q = λ i. record { held = (p ∙ sym q) i }
@@ -12,6 +12,3 @@ one-add j e = one-named (adding (j .held) e)
 
 pub one-finish : OneFinish
 one-finish j = one-named (j .held)
-
-pub one-most-events : OneMostEvents
-one-most-events n k = one-named (mostEvents n k)

@@ -1,7 +1,7 @@
--- A joiner holds the newest event back, until the next one shows that it is whole; and how many events a queue must hold.
+-- A joiner holds the newest event back, until the next one shows that it is whole.
 use mathlib.Core.Bool.{Bool}
 use mathlib.Core.List.{List, [], _∷_, _++_}
-use Prim.Native.Nat.{ℕ, _+_, _-_, _/_, _^_, _<_, min}
+use Prim.Native.Nat.{_+_, _^_, _<_}
 use lib.Dec.{ltb}
 use Rattle.jxl_headers.specs.Bytes.{if, and}
 use Rattle.jxl_events.specs.declared.ParseEvent.{ParseEvent}
@@ -39,7 +39,3 @@ Counted e = endOf e < 2 ^ 64
 abbrev pub AllCounted : List ParseEvent → Type 0
 AllCounted [] = Unit {0}
 AllCounted (e ∷ es) = Counted e × AllCounted es
-
--- n bytes in k packets, one at least, give at most n / 3 + 2 + k events (`MostEvents`); the number saturates at 64 bits
-abbrev pub mostEvents : ℕ → ℕ → ℕ
-mostEvents n k = min (n / 3 + 2 + k) (2 ^ 64 - 1)

@@ -1,3 +1,4 @@
 pub mod Joined
 pub mod Joiner
+pub mod Parts
 pub mod Theorems

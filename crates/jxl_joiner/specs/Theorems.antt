@@ -1,9 +1,8 @@
 -- One answer: each promise determines what its function gives; proofs/Unique.antt has a proof of each under the same name in small letters.
 use mathlib.Core.Path.{_≡_}
-use Prim.Native.Nat.{ℕ}
 use Rattle.jxl_base.specs.OneAnswer.{OneAnswer}
 use Rattle.jxl_events.specs.declared.ParseEvent.{ParseEvent}
-use Rattle.jxl_joiner.specs.Joiner.{adding, mostEvents}
+use Rattle.jxl_joiner.specs.Joiner.{adding}
 use Rattle.jxl_joiner.specs.declared.MaybeEvent.the-variants.{None}
 use Rattle.jxl_joiner.specs.declared.Joiner.{Joiner}
 
@@ -15,6 +14,3 @@ OneAdd = (j : Joiner) (e : ParseEvent) → OneAnswer (λ r. r ≡ adding (j .hel
 
 abbrev pub OneFinish : Type 0
 OneFinish = (j : Joiner) → OneAnswer (λ r. r ≡ j .held)
-
-abbrev pub OneMostEvents : Type 0
-OneMostEvents = (n k : ℕ) → OneAnswer (λ r. r ≡ mostEvents n k)

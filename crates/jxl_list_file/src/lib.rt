@@ -6,30 +6,14 @@ use jxl_lines::Line;
 use jxl_lines::StopWord;
 use jxl_list_rules::AfterStep;
 use jxl_listing::Put;
+use jxl_queue::saturating_sum;
 ghost use mathlib.Core.Path.{_≡_};
-ghost use Prim.Native.Nat.{_+_, _-_, _^_, _≤_, _<_, min};
+ghost use Prim.Native.Nat.{_+_, _-_, _^_, _≤_, min};
 ghost use lib.ListN.{length, drop};
-ghost use Rattle.jxl_events.specs.Event.{shifted};
 ghost use Rattle.jxl_lines.specs.Lines.{text};
 ghost use Rattle.jxl_lines.specs.Pasting.{pasted};
 ghost use Rattle.jxl_listing.specs.Putting.{leaves};
-ghost use Rattle.jxl_list_rules.specs.Listed.{fileText, listOf, nextOf, placeOf};
-
-// The event with `base` added to its place.
-fn place(event: ParseEvent, base: usize) -> ParseEvent
-    requires { ⌜ base + placeOf event < 2 ^ 64 ⌝ }
-    ensures { λ r. ⌜ r ≡ shifted base event ⌝ }
-{
-    match event {
-        ParseEvent::Codestream { at, len } => ParseEvent::Codestream { at: base + at, len },
-        ParseEvent::AuxBoxData { ty, at, len } => ParseEvent::AuxBoxData {
-            ty,
-            at: base + at,
-            len,
-        },
-        _ => event,
-    }
-}
+ghost use Rattle.jxl_list_rules.specs.Listed.{fileText, listOf, nextOf};
 
 // One step on the file from `at` on.
 fn next(parser: ContainerParser, file: &[u8], at: usize) -> AfterStep
@@ -42,7 +26,7 @@ fn next(parser: ContainerParser, file: &[u8], at: usize) -> AfterStep
             next,
             consumed,
         } => AfterStep::Shown {
-            event: place(event, at),
+            event: jxl_events::moved(event, at),
             parser: next,
             at: at + consumed,
         },
@@ -63,17 +47,6 @@ fn next(parser: ContainerParser, file: &[u8], at: usize) -> AfterStep
     }
 }
 
-// The sum, at most the largest number of 64 bits.
-fn add(a: usize, b: usize) -> usize
-    ensures { λ r. ⌜ r ≡ min (a + b) (2 ^ 64 - 1) ⌝ }
-{
-    if a <= 0xffff_ffff_ffff_ffff - b {
-        a + b
-    } else {
-        0xffff_ffff_ffff_ffff
-    }
-}
-
 // How many bytes the listing of the file has, at most the largest number of 64 bits.
 fn measure(file: &[u8]) -> usize
     ensures { λ r. ⌜ r ≡ min (length (fileText (now (file .entry)))) (2 ^ 64 - 1) ⌝ }
@@ -88,7 +61,7 @@ fn measure(file: &[u8]) -> usize
                 parser: then,
                 at: further,
             } => {
-                total = add(total, jxl_lengths::line_length(Line::Shown(event)));
+                total = saturating_sum(total, jxl_lengths::line_length(Line::Shown(event)));
                 parser = then;
                 at = further;
             }
@@ -97,7 +70,7 @@ fn measure(file: &[u8]) -> usize
                 parser: _,
                 at: consumed,
             } => {
-                return add(
+                return saturating_sum(
                     total,
                     jxl_lengths::line_length(Line::Stopped { stop, consumed }),
                 );

@@ -11,7 +11,7 @@ use Rattle.jxl_grammar.specs.Laws.{Inside}
 use Rattle.jxl_headers.specs.Refusals.{Why}
 use Rattle.jxl_record.specs.Record.{fresh}
 use Rattle.jxl_grammar.specs.Step.{Told, shows, wants, refuses, stepOf}
-use Rattle.jxl_events.specs.Event.{shifted}
+use Rattle.jxl_events.specs.Event.{shifted, placeOf}
 use Rattle.jxl_grammar.proofs.Laws.{every-step}
 use Rattle.jxl_record.specs.declared.ContainerParser.{ContainerParser}
 use Rattle.jxl_events.specs.declared.ParseEvent.{ParseEvent}
@@ -29,7 +29,7 @@ use Rattle.jxl_lines.specs.declared.Line.the-variants as L
 use Rattle.jxl_listing.specs.declared.Put.the-variants.{Written, NoRoom}
 use Rattle.jxl_lines.specs.declared.StopWord.{StopWord}
 use Rattle.jxl_lines.specs.declared.StopWord.the-variants as S
-use Rattle.jxl_list_rules.specs.Listed.{texts, listingText, fileText, nextIn, nextOf, placeOf, listOf}
+use Rattle.jxl_list_rules.specs.Listed.{texts, listingText, fileText, nextIn, nextOf, listOf}
 use Rattle.jxl_list_rules.specs.declared.AfterStep.the-variants as N
 
 -- a payload's place lies inside the input too

@@ -8,7 +8,6 @@ use Rattle.jxl_grammar.specs.Step.{Told, shows, wants, refuses, stepOf}
 use Rattle.jxl_events.specs.Event.{shifted}
 use Rattle.jxl_record.specs.declared.ContainerParser.{ContainerParser}
 use Rattle.jxl_events.specs.declared.ParseEvent.{ParseEvent}
-use Rattle.jxl_events.specs.declared.ParseEvent.the-variants as E
 use Rattle.jxl_grammar.specs.Grammar.{Listing, file}
 use Rattle.jxl_grammar.specs.Grammar as G
 use Rattle.jxl_lines.specs.Lines.{printed, text}
@@ -45,15 +44,6 @@ nextIn at (refuses w q c) = N.Stopped (printed w) q (at + c)
 
 abbrev pub nextOf : ContainerParser → ℕ → List ℕ → AfterStep
 nextOf p at s = nextIn at (stepOf p s)
-
--- the place of an event's payload
-abbrev pub placeOf : ParseEvent → ℕ
-placeOf (E.BitstreamKind k) = 0
-placeOf E.NoMoreAuxBox = 0
-placeOf (E.Codestream a n) = a
-placeOf (E.AuxBoxStart t b e) = 0
-placeOf (E.AuxBoxData t a n) = a
-placeOf (E.AuxBoxEnd t) = 0
 
 -- the listing put into a buffer if it fits; else the buffer stays as it was, and the room needed is told, at most the largest number
 -- of 64 bits

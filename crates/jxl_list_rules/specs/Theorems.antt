@@ -4,7 +4,7 @@ use mathlib.Core.List.{List, [], _∷_, _++_}
 use Prim.Native.Nat.{ℕ, _+_, _^_, _<_, _≤_}
 use lib.ListN.{length, drop}
 use Rattle.jxl_base.specs.OneAnswer.{OneAnswer, OneAnswerAndBuffer}
-use Rattle.jxl_events.specs.Event.{shifted, lengthOf}
+use Rattle.jxl_events.specs.Event.{shifted, lengthOf, placeOf}
 use Rattle.jxl_record.specs.declared.ContainerParser.{ContainerParser}
 use Rattle.jxl_events.specs.declared.ParseEvent.{ParseEvent}
 use Rattle.jxl_grammar.specs.Feeding.{Seen, events}
@@ -15,7 +15,7 @@ use Rattle.jxl_joiner.specs.declared.MaybeEvent.{MaybeEvent}
 use Rattle.jxl_joiner.specs.declared.MaybeEvent.the-variants.{None, Some}
 use Rattle.jxl_listing.specs.Putting.{leaves}
 use Rattle.jxl_lines.specs.declared.StopWord.{StopWord}
-use Rattle.jxl_list_rules.specs.Listed.{stopOf, texts, placeOf, listOf}
+use Rattle.jxl_list_rules.specs.Listed.{stopOf, texts, listOf}
 use Rattle.jxl_list_rules.specs.Turned.{Turned, turnFrom, turnOf, Told}
 use Rattle.jxl_list_rules.specs.Row.{goesOn, rowOf}
 use Rattle.jxl_list_rules.specs.Way.{wayOf, Leads}

@@ -11,31 +11,14 @@ use jxl_listing::Put;
 ghost use mathlib.Core.Path.{_≡_};
 ghost use Prim.Native.Nat.{_+_, _^_, _≤_, _<_};
 ghost use lib.ListN.{length};
-ghost use Rattle.jxl_events.specs.Event.{shifted};
 ghost use Rattle.jxl_listing.specs.Putting.{leaves, putOf};
-ghost use Rattle.jxl_list_rules.specs.Listed.{placeOf, texts};
+ghost use Rattle.jxl_list_rules.specs.Listed.{texts};
 ghost use Rattle.jxl_list_rules.specs.Turned.{Told, turnFrom, turnOf};
 ghost use Rattle.jxl_joiner.specs.Joiner.{handed};
 
 // What a turn leaves, and why it ended.
 pub use jxl_list_rules::AfterTurn;
 pub use jxl_list_rules::TurnEnd;
-
-// The event with `base` added to its place.
-fn place(event: ParseEvent, base: usize) -> ParseEvent
-    requires { ⌜ base + placeOf event < 2 ^ 64 ⌝ }
-    ensures { λ r. ⌜ r ≡ shifted base event ⌝ }
-{
-    match event {
-        ParseEvent::Codestream { at, len } => ParseEvent::Codestream { at: base + at, len },
-        ParseEvent::AuxBoxData { ty, at, len } => ParseEvent::AuxBoxData {
-            ty,
-            at: base + at,
-            len,
-        },
-        _ => event,
-    }
-}
 
 // Puts the line of an event that a joiner handed back, if it did.
 fn put_held(out: &mut [u8], at: usize, held: MaybeEvent) -> Put
@@ -89,7 +72,7 @@ fn turn_from(
                 consumed,
                 event,
             } => {
-                let added = j.add(place(event, base + k));
+                let added = j.add(jxl_events::moved(event, base + k));
                 let handed = added.out;
                 let held = added.next;
                 match put_held(out, t.written, handed) {

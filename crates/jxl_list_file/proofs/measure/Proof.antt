@@ -40,8 +40,8 @@ enum-known-event c = search needs
 line-length-requires : tie.Need-line-length-requires Inv-loop μ-loop
 line-length-requires c κs = tt
 
-add-requires : tie.Need-add-requires Inv-loop μ-loop
-add-requires c κs = tt
+saturating-sum-requires : tie.Need-saturating-sum-requires Inv-loop μ-loop
+saturating-sum-requires c κs = tt
 
 loop-less : tie.Need-loop-less Inv-loop μ-loop
 loop-less c =
@@ -62,7 +62,7 @@ loop-again c =
     let long : length (Rest (l .parser) (l .at) f) ≡ c .before .line-length .result + length (Rest (c .before .before .before .event .given .0 .1 .0) (c .before .before .before .event .given .0 .1 .1 .0) f) =
     ap length (then .0) ∙ length-append (text (L.Shown (c .before .before .before .event .given .0 .0))) _ ∙ ap (λ (n : ℕ). n + length (Rest (c .before .before .before .event .given .0 .1 .0) (c .before .before .before .event .given .0 .1 .1 .0) f)) (sym (c .before .line-length .ensures)) in
     let sum = one-line (length (fileText f)) _ _ _ (l .total) long (l .inv .1) (l .inv .2) in
-    (then .1, sum .0, c .add .ensures ∙ sum .1)
+    (then .1, sum .0, c .saturating-sum .ensures ∙ sum .1)
 
 enum-known-stop : tie.Need-enum-known-stop Inv-loop μ-loop
 enum-known-stop c = search needs
@@ -70,8 +70,8 @@ enum-known-stop c = search needs
 line-length-requires-2 : tie.Need-line-length-requires-2 Inv-loop μ-loop
 line-length-requires-2 c κs = tt
 
-add-requires-2 : tie.Need-add-requires-2 Inv-loop μ-loop
-add-requires-2 c κs = tt
+saturating-sum-requires-2 : tie.Need-saturating-sum-requires-2 Inv-loop μ-loop
+saturating-sum-requires-2 c κs = tt
 
 returns : tie.Need-returns Inv-loop μ-loop
 returns c =
@@ -81,7 +81,7 @@ returns c =
     sym (c .before .before .before .before .before .next .ensures) ∙ c .before .before .before .stop .given .1 in
     let long : length (Rest (l .parser) (l .at) f) ≡ c .before .line-length2 .result =
     ap length (following-stopped (l .parser) f (l .at) found) ∙ sym (c .before .line-length2 .ensures) in
-    c .add2 .ensures ∙ last-line (length (fileText f)) _ _ (l .total) long (l .inv .1) (l .inv .2)
+    c .saturating-sum2 .ensures ∙ last-line (length (fileText f)) _ _ (l .total) long (l .inv .1) (l .inv .2)
 
 pub measure-spec : {M : Type 1} → statement M
 measure-spec =
@@ -94,10 +94,10 @@ measure-spec =
     next-requires
     enum-known-event
     line-length-requires
-    add-requires
+    saturating-sum-requires
     loop-less
     loop-again
     enum-known-stop
     line-length-requires-2
-    add-requires-2
+    saturating-sum-requires-2
     returns)

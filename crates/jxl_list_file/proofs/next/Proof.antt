@@ -1,6 +1,7 @@
-use mathlib.Core.Path.{ap}
+use mathlib.Core.Path.{ap, _∙_}
 use native.Mathlib.Omega.{arith}
 use denote.Ref.{now}
+use Rattle.jxl_events.proofs.Shifted.{moved-fits}
 use Rattle.jxl_payloads.specs.Told.{told}
 use Rattle.jxl_list_rules.proofs.Text.{far, shown-fits, wants-fits, refuses-fits}
 use borrow.Author.Needs.{needs}
@@ -22,8 +23,8 @@ step-requires c κs = search needs
 enum-known-next : tie.Need-enum-known-next
 enum-known-next c = search needs
 
-place-requires : tie.Need-place-requires
-place-requires c κs = omega (arith, shown-fits (c .before .before .before .before .before .before .args .parser) (now (c .before .before .before .before .before .before .args .file)) (c .before .before .before .before .before .before .args .at) (c .before .before .before .before .before .before .pre) (far (c .before .before .before .before .before .before .args .parser) (now (c .before .before .before .before .before .before .args .file)) (c .before .before .before .before .before .before .args .at) (c .before .before .before .before .before .before .pre) (c .before .before .before .step .ensures) (ap told (c .before .next .given .1))) .0)
+moved-requires : tie.Need-moved-requires
+moved-requires c κs = search needs
 
 add-t19 : tie.Need-add-t19
 add-t19 c = omega (arith, shown-fits (c .before .before .before .before .before .before .before .args .parser) (now (c .before .before .before .before .before .before .before .args .file)) (c .before .before .before .before .before .before .before .args .at) (c .before .before .before .before .before .before .before .pre) (far (c .before .before .before .before .before .before .before .args .parser) (now (c .before .before .before .before .before .before .before .args .file)) (c .before .before .before .before .before .before .before .args .at) (c .before .before .before .before .before .before .before .pre) (c .before .before .before .before .step .ensures) (ap told (c .before .before .next .given .1))) .1)
@@ -44,7 +45,7 @@ add-t23 : tie.Need-add-t23
 add-t23 c = omega (arith, refuses-fits (c .before .before .before .before .before .before .before .args .parser) (now (c .before .before .before .before .before .before .before .args .file)) (c .before .before .before .before .before .before .before .args .at) (c .before .before .before .before .before .before .before .pre) (far (c .before .before .before .before .before .before .before .args .parser) (now (c .before .before .before .before .before .before .before .args .file)) (c .before .before .before .before .before .before .before .args .at) (c .before .before .before .before .before .before .before .pre) (c .before .before .before .before .step .ensures) (ap told (c .before .before .next3 .given .1))))
 
 returns : tie.Need-returns
-returns c = rw (far (c .before .before .before .before .before .before .before .args .parser) (now (c .before .before .before .before .before .before .before .args .file)) (c .before .before .before .before .before .before .before .args .at) (c .before .before .before .before .before .before .before .pre) (c .before .before .before .before .step .ensures) (ap told (c .before .before .next .given .1)), c .place .ensures)
+returns c = rw (far (c .before .before .before .before .before .before .before .args .parser) (now (c .before .before .before .before .before .before .before .args .file)) (c .before .before .before .before .before .before .before .args .at) (c .before .before .before .before .before .before .before .pre) (c .before .before .before .before .step .ensures) (ap told (c .before .before .next .given .1)), c .moved .ensures ∙ moved-fits (c .before .before .before .before .before .before .before .args .at) (c .before .before .next .given .0 .1 .1 .0) (omega (arith, shown-fits (c .before .before .before .before .before .before .before .args .parser) (now (c .before .before .before .before .before .before .before .args .file)) (c .before .before .before .before .before .before .before .args .at) (c .before .before .before .before .before .before .before .pre) (far (c .before .before .before .before .before .before .before .args .parser) (now (c .before .before .before .before .before .before .before .args .file)) (c .before .before .before .before .before .before .before .args .at) (c .before .before .before .before .before .before .before .pre) (c .before .before .before .before .step .ensures) (ap told (c .before .before .next .given .1))) .0)))
 
 returns-2 : tie.Need-returns-2
 returns-2 c = rw (far (c .before .before .before .before .before .before .args .parser) (now (c .before .before .before .before .before .before .args .file)) (c .before .before .before .before .before .before .args .at) (c .before .before .before .before .before .before .pre) (c .before .before .before .step .ensures) (ap told (c .before .next2 .given .1)))
@@ -61,7 +62,7 @@ next-spec =
     part-step-end
     step-requires
     enum-known-next
-    place-requires
+    moved-requires
     add-t19
     enum-known-next-2
     add-t21

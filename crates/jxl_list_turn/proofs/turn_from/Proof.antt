@@ -6,6 +6,8 @@ use lib.ListN.{length, drop}
 use denote.Ref.{now}
 use borrow.Author.Needs.{needs}
 use Rattle.jxl_headers.specs.Refusals.{why}
+use Rattle.jxl_events.specs.Event.{shifted}
+use Rattle.jxl_events.proofs.Shifted.{moved-fits}
 use Rattle.jxl_grammar.specs.Step.{shows, wants, refuses, stepOf}
 use Rattle.jxl_payloads.specs.Told.{told}
 use Rattle.jxl_grammar.specs.Feeding.{Seen}
@@ -34,6 +36,15 @@ shown : (c : tie.After-next Inv-loop μ-loop) → let t = c .before .before .bef
 shown c =
     let t = c .before .before .before .before .before .before .loop .t in
     far (t .parser) (now (c .before .before .before .before .before .before .before .before .before .before .before .args .input)) (t .consumed) (c .before .before .before .before .before .before .loop .inv .inside) (c .before .before .step .ensures) (ap told (c .next .given .1))
+
+-- the event with its place in the file, which fits
+placed : (c : tie.After-moved Inv-loop μ-loop) → let n = c .before .before .next .given .0 in
+    c .moved .result ≡ shifted (c .before .before .before .before .before .before .before .before .before .before .before .before .before .args .base + c .before .before .before .before .before .before .before .before .loop .t .consumed) (n .1 .1 .0)
+placed c =
+    let start = c .before .before .before .before .before .before .before .before .before .before .before .before .before in
+    let l = c .before .before .before .before .before .before .before .before .loop in
+    let n = c .before .before .next .given .0 in
+    c .moved .ensures ∙ moved-fits (start .args .base + l .t .consumed) (n .1 .1 .0) (omega (arith, shown-fits (l .t .parser) (now (start .args .input)) (l .t .consumed) (l .inv .inside) (shown (c .before .before)) .0, start .pre))
 
 wanted : (c : tie.After-next2 Inv-loop μ-loop) → let t = c .before .before .before .before .before .before .loop .t in
     let n = c .next2 .given .0 in stepOf (t .parser) (drop (t .consumed) (now (c .before .before .before .before .before .before .before .before .before .before .before .args .input))) ≡ wants (n .0) (n .1 .0)
@@ -83,13 +94,11 @@ step-requires c κs = search needs
 enum-known-next : tie.Need-enum-known-next Inv-loop μ-loop
 enum-known-next c = search needs
 
-add-place : tie.Need-add-place Inv-loop μ-loop
-add-place c = omega (arith, c .before .before .before .before .before .before .before .loop .inv .inside, c .before .before .before .before .before .before .before .before .before .before .before .before .pre)
+add-moved : tie.Need-add-moved Inv-loop μ-loop
+add-moved c = omega (arith, c .before .before .before .before .before .before .before .loop .inv .inside, c .before .before .before .before .before .before .before .before .before .before .before .before .pre)
 
-place-requires : tie.Need-place-requires Inv-loop μ-loop
-place-requires c κs =
-    let l = c .before .before .before .before .before .before .before .loop in
-    omega (arith, shown-fits (l .t .parser) (now (c .before .before .before .before .before .before .before .before .before .before .before .before .args .input)) (l .t .consumed) (l .inv .inside) (shown (c .before)) .0, c .before .before .before .before .before .before .before .before .before .before .before .before .pre)
+moved-requires : tie.Need-moved-requires Inv-loop μ-loop
+moved-requires c κs = search needs
 
 add-requires : tie.Need-add-requires Inv-loop μ-loop
 add-requires c κs = search needs
@@ -123,7 +132,7 @@ loop-again c =
     let a = c .before .before .before .before .before .before .before .before .before .before .before .before .before .before .before .before .before .before .before .before .before .before .before .args in
     let l = c .before .before .before .before .before .before .before .before .before .before .before .before .before .before .before .before .before .before .loop in
     let put = c .before .before .before .before .before .before .put-held in
-    going-on (a .base) (now (a .input)) (now (a .out)) _ (l .out) (l .t) (l .inv) (shown (c .before .before .before .before .before .before .before .before .before .before .before .before)) (c .before .before .before .before .before .before .before .before .before .before .place .ensures) (c .before .before .before .before .before .before .before .before .before .add .ensures) (put .last .0)
+    going-on (a .base) (now (a .input)) (now (a .out)) _ (l .out) (l .t) (l .inv) (shown (c .before .before .before .before .before .before .before .before .before .before .before .before)) (placed (c .before .before .before .before .before .before .before .before .before .before)) (c .before .before .before .before .before .before .before .before .before .add .ensures) (put .last .0)
     (ap (λ (r : Put). leaves r (put .last .0)) (sym (c .before .before .w .given .1)) ∙ put .ensures) (c .after2 .ensures)
 
 enum-told : tie.Need-enum-told Inv-loop μ-loop
@@ -139,7 +148,7 @@ returns c =
     let put = c .before .before .before .before .put-held in
     let s = c .before .before .before .before .before .before .before .before .before .before .before .before .before .before .before .before .before in
     subst (Told (l .t) (put .last .0) (now (a .out))) (started s)
-    (going-full (a .base) (now (a .input)) (now (a .out)) (turnFrom (a .base) (now (a .input)) (length (now (a .out))) (s .after .result .parser) (s .after .result .joiner .held) 0) (l .out) (l .t) (l .inv) (shown (c .before .before .before .before .before .before .before .before .before .before)) (c .before .before .before .before .before .before .before .before .place .ensures) (c .before .before .before .before .before .before .before .add .ensures) (put .last .0)
+    (going-full (a .base) (now (a .input)) (now (a .out)) (turnFrom (a .base) (now (a .input)) (length (now (a .out))) (s .after .result .parser) (s .after .result .joiner .held) 0) (l .out) (l .t) (l .inv) (shown (c .before .before .before .before .before .before .before .before .before .before)) (placed (c .before .before .before .before .before .before .before .before)) (c .before .before .before .before .before .before .before .add .ensures) (put .last .0)
     (ap (λ (r : Put). leaves r (put .last .0)) (sym (c .enum-told .given .1)) ∙ put .ensures) .0)
 
 enum-known-next-2 : tie.Need-enum-known-next-2 Inv-loop μ-loop
@@ -203,8 +212,8 @@ turn-from-spec =
     part-step-end
     step-requires
     enum-known-next
-    add-place
-    place-requires
+    add-moved
+    moved-requires
     add-requires
     put-held-requires
     enum-known-w
