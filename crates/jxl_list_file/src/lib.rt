@@ -12,7 +12,7 @@ ghost use lib.ListN.{length, drop};
 ghost use Rattle.jxl_events.specs.Event.{shifted};
 ghost use Rattle.jxl_lines.specs.Lines.{text};
 ghost use Rattle.jxl_lines.specs.Pasting.{pasted};
-ghost use Rattle.jxl_listing.specs.Putting.{leaves};
+ghost use Rattle.jxl_lines.specs.Putting.{leaves};
 ghost use Rattle.jxl_list_rules.specs.Listed.{fileText, listOf, nextOf, placeOf};
 
 // The event with `base` added to its place.
