@@ -85,10 +85,11 @@ unfolding hex8
 type-length t = hex-length 8 t
 
 -- the last four characters of a number
-pub four-glyphs : (n : ℕ) → hexDigits 4 n ≡ glyph (n / 0x1000 % 16) ∷ glyph (n / 0x100 % 16) ∷ glyph (n / 0x10 % 16) ∷ glyph (n % 16) ∷ []
-four-glyphs n =
-    let a : n / 16 / 16 ≡ n / 0x100 = omega arith in
-    let b : n / 16 / 16 / 16 ≡ n / 0x1000 = omega arith in
+pub four-glyphs : (n : ℕ) {a b c d : ℕ} → a ≡ glyph (n / 0x1000 % 16) → b ≡ glyph (n / 0x100 % 16) → c ≡ glyph (n / 0x10 % 16) → d ≡ glyph (n % 16)
+    → a ∷ b ∷ c ∷ d ∷ [] ≡ hexDigits 4 n
+four-glyphs n first second third fourth =
+    let two : n / 16 / 16 ≡ n / 0x100 = omega arith in
+    let three : n / 16 / 16 / 16 ≡ n / 0x1000 = omega arith in
     cc
 
 -- a type has four from its high half, and four from its low one

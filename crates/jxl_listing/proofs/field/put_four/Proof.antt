@@ -48,10 +48,11 @@ same-length c = simp length-set
 
 returns : tie.Need-returns
 returns c =
-    pasted-as (cc (four-glyphs (c .before .before .before .before .before .args .n)))
+    let start = c .before .before .before .before .before in
+    pasted-as (four-glyphs (start .args .n) (c .before .before .before .glyph .ensures) (c .before .before .glyph2 .ensures) (c .before .glyph3 .ensures) (c .glyph4 .ensures))
     (pasted-stored _ _ (c .before .before .before .glyph .result)
     (c .before .before .glyph2 .result ∷ c .before .glyph3 .result ∷ c .glyph4 .result ∷ [])
-    (c .before .before .before .before .before .pre))
+    (start .pre))
 
 pub put-four-spec : {M : Type 1} → statement M
 put-four-spec =
