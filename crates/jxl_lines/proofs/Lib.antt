@@ -6,3 +6,4 @@ pub mod Ranges
 pub mod Values
 pub mod Fields
 pub mod Different
+pub mod Putting

@@ -84,15 +84,15 @@ pub type-length : (t : ℕ) → length (hex8 t) ≡ 8
 unfolding hex8
 type-length t = hex-length 8 t
 
--- the eight characters of a type
-pub type-glyphs : (t : ℕ) → hex8 t ≡ glyph (t / 0x1000_0000 % 16) ∷ glyph (t / 0x100_0000 % 16) ∷ glyph (t / 0x10_0000 % 16) ∷ glyph (t / 0x1_0000 % 16)
-    ∷ glyph (t / 0x1000 % 16) ∷ glyph (t / 0x100 % 16) ∷ glyph (t / 0x10 % 16) ∷ glyph (t % 16) ∷ []
-unfolding hex8
-type-glyphs t =
-    let a : t / 16 / 16 ≡ t / 0x100 = omega arith in
-    let b : t / 16 / 16 / 16 ≡ t / 0x1000 = omega arith in
-    let c : t / 16 / 16 / 16 / 16 ≡ t / 0x1_0000 = omega arith in
-    let d : t / 16 / 16 / 16 / 16 / 16 ≡ t / 0x10_0000 = omega arith in
-    let e : t / 16 / 16 / 16 / 16 / 16 / 16 ≡ t / 0x100_0000 = omega arith in
-    let f : t / 16 / 16 / 16 / 16 / 16 / 16 / 16 ≡ t / 0x1000_0000 = omega arith in
+-- the last four characters of a number
+pub four-glyphs : (n : ℕ) {a b c d : ℕ} → a ≡ glyph (n / 0x1000 % 16) → b ≡ glyph (n / 0x100 % 16) → c ≡ glyph (n / 0x10 % 16) → d ≡ glyph (n % 16)
+    → a ∷ b ∷ c ∷ d ∷ [] ≡ hexDigits 4 n
+four-glyphs n first second third fourth =
+    let two : n / 16 / 16 ≡ n / 0x100 = omega arith in
+    let three : n / 16 / 16 / 16 ≡ n / 0x1000 = omega arith in
     cc
+
+-- a type has four from its high half, and four from its low one
+pub type-halves : (t : ℕ) → hex8 t ≡ hexDigits 4 (t / 0x1_0000) ++ hexDigits 4 t
+unfolding hex8
+type-halves t = let high : t / 16 / 16 / 16 / 16 ≡ t / 0x1_0000 = omega arith in cc

@@ -51,6 +51,10 @@ pub end-either : (b : Bool) → if b (9 ∷ 116 ∷ 111 ∷ 101 ∷ 110 ∷ 100 
 end-either true = refl
 end-either false = refl
 
+pub end-either-size : (b : Bool) → length {A = ℕ} (if b (9 ∷ 116 ∷ 111 ∷ 101 ∷ 110 ∷ 100 ∷ 10 ∷ []) (9 ∷ 98 ∷ 111 ∷ 117 ∷ 110 ∷ 100 ∷ 101 ∷ 100 ∷ 10 ∷ [])) ≡ 2 + length (endWord b)
+end-either-size true = refl
+end-either-size false = refl
+
 pub start-size : (t : ℕ) (b e : Bool) → length (text (Shown (E.AuxBoxStart t b e))) ≡ 17 + length (brobWord b) + length (endWord e)
 start-size t b e = simp length-append (omega (arith, type-length t))
 

@@ -29,3 +29,9 @@ pub enum Line {
     Shown(ParseEvent),
     Stopped { stop: StopWord, consumed: usize },
 }
+
+// Where the next line goes; or how many bytes the line that did not fit has.
+pub enum Put {
+    Written(usize),
+    NoRoom(usize),
+}

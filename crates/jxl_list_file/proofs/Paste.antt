@@ -9,8 +9,8 @@ use lib.ListN.{length, take, drop, length-append, length-drop, take-append-drop}
 use lib.Seq.{take-add, take-at, drop-drop, drop-append-add, take-append-seam, drop-append-seam, drop-at, length-take-le, take-length}
 use borrow.Author.Tests.{le-leb}
 use Rattle.jxl_lines.specs.Pasting.{pasted}
-use Rattle.jxl_listing.specs.Putting.{leaves, putOf}
-use Rattle.jxl_listing.specs.declared.Put.the-variants.{Written, NoRoom}
+use Rattle.jxl_lines.specs.Putting.{leaves, putOf}
+use Rattle.jxl_lines.specs.declared.Put.the-variants.{Written, NoRoom}
 
 -- a line that fits is put
 pub put-fits : (d : List ℕ) (at : ℕ) (w : List ℕ) → at + length w ≤ length d → putOf d at w ≡ leaves (Written (at + length w)) (pasted d at w)

@@ -12,7 +12,7 @@ ghost use Prim.Native.Nat.{_+_, _-_, _^_, _≤_, min};
 ghost use lib.ListN.{length, drop};
 ghost use Rattle.jxl_lines.specs.Lines.{text};
 ghost use Rattle.jxl_lines.specs.Pasting.{pasted};
-ghost use Rattle.jxl_listing.specs.Putting.{leaves};
+ghost use Rattle.jxl_lines.specs.Putting.{leaves};
 ghost use Rattle.jxl_list_rules.specs.Listed.{fileText, listOf, nextOf};
 
 // One step on the file from `at` on.

@@ -24,9 +24,9 @@ use Rattle.jxl_grammar.proofs.Taking.{takes, take-is}
 use Rattle.jxl_grammar.proofs.Theorems.{every-file, whole-feed}
 use Rattle.jxl_lines.specs.Lines.{printed, text}
 use Rattle.jxl_lines.specs.Pasting.{pasted}
-use Rattle.jxl_listing.specs.Putting.{leaves}
+use Rattle.jxl_lines.specs.Putting.{leaves}
 use Rattle.jxl_lines.specs.declared.Line.the-variants as L
-use Rattle.jxl_listing.specs.declared.Put.the-variants.{Written, NoRoom}
+use Rattle.jxl_lines.specs.declared.Put.the-variants.{Written, NoRoom}
 use Rattle.jxl_lines.specs.declared.StopWord.{StopWord}
 use Rattle.jxl_lines.specs.declared.StopWord.the-variants as S
 use Rattle.jxl_list_rules.specs.Listed.{texts, listingText, fileText, nextIn, nextOf, listOf}

@@ -12,11 +12,11 @@ use Rattle.jxl_grammar.specs.Grammar.{Listing, file}
 use Rattle.jxl_grammar.specs.Grammar as G
 use Rattle.jxl_lines.specs.Lines.{printed, text}
 use Rattle.jxl_lines.specs.Pasting.{pasted}
-use Rattle.jxl_listing.specs.Putting.{Outcome, leaves}
+use Rattle.jxl_lines.specs.Putting.{Outcome, leaves}
 use Rattle.jxl_lines.specs.declared.Line.the-variants as L
 use Rattle.jxl_lines.specs.declared.StopWord.{StopWord}
 use Rattle.jxl_lines.specs.declared.StopWord.the-variants as S
-use Rattle.jxl_listing.specs.declared.Put.the-variants.{Written, NoRoom}
+use Rattle.jxl_lines.specs.declared.Put.the-variants.{Written, NoRoom}
 use Rattle.jxl_list_rules.specs.declared.AfterStep.{AfterStep}
 use Rattle.jxl_list_rules.specs.declared.AfterStep.the-variants as N
 

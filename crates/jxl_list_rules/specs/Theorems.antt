@@ -13,7 +13,7 @@ use Rattle.jxl_joiner.specs.Joiner.{handed, run}
 use Rattle.jxl_grammar.specs.Theorems.{All}
 use Rattle.jxl_joiner.specs.declared.MaybeEvent.{MaybeEvent}
 use Rattle.jxl_joiner.specs.declared.MaybeEvent.the-variants.{None, Some}
-use Rattle.jxl_listing.specs.Putting.{leaves}
+use Rattle.jxl_lines.specs.Putting.{leaves}
 use Rattle.jxl_lines.specs.declared.StopWord.{StopWord}
 use Rattle.jxl_list_rules.specs.Listed.{stopOf, texts, listOf}
 use Rattle.jxl_list_rules.specs.Turned.{Turned, turnFrom, turnOf, Told}

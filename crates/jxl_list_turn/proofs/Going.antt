@@ -14,8 +14,8 @@ use Rattle.jxl_joiner.specs.declared.Added.{Added}
 use Rattle.jxl_joiner.specs.declared.MaybeEvent.{MaybeEvent}
 use Rattle.jxl_joiner.specs.declared.Joiner.{Joiner}
 use Rattle.jxl_lines.specs.Pasting.{pasted}
-use Rattle.jxl_listing.specs.Putting.{Outcome, leaves, putOf}
-use Rattle.jxl_listing.specs.declared.Put.the-variants.{Written, NoRoom}
+use Rattle.jxl_lines.specs.Putting.{Outcome, leaves, putOf}
+use Rattle.jxl_lines.specs.declared.Put.the-variants.{Written, NoRoom}
 use Rattle.jxl_lines.specs.declared.StopWord.{StopWord}
 use Rattle.jxl_lines.specs.declared.StopWord.the-variants as S
 use Rattle.jxl_list_rules.specs.Listed.{texts, nextIn, nextOf}

@@ -10,8 +10,8 @@ use lib.ListN.{length, take, drop, length-append, length-drop, take-append-drop}
 use lib.Seq.{take-at, drop-at, length-take-le}
 use borrow.Author.Tests.{le-leb, leb-true, leb-false}
 use Rattle.jxl_lines.specs.Pasting.{pasted}
-use Rattle.jxl_listing.specs.Putting.{leaves, putOf}
-use Rattle.jxl_listing.specs.declared.Put.the-variants.{Written, NoRoom}
+use Rattle.jxl_lines.specs.Putting.{leaves, putOf}
+use Rattle.jxl_lines.specs.declared.Put.the-variants.{Written, NoRoom}
 
 -- nothing to put
 pub put-nothing : (d : List ℕ) (at : ℕ) → at ≤ length d → putOf d at [] ≡ leaves (Written at) d

@@ -11,7 +11,7 @@ use jxl_listing::Put;
 ghost use mathlib.Core.Path.{_≡_};
 ghost use Prim.Native.Nat.{_+_, _^_, _≤_, _<_};
 ghost use lib.ListN.{length};
-ghost use Rattle.jxl_listing.specs.Putting.{leaves, putOf};
+ghost use Rattle.jxl_lines.specs.Putting.{leaves, putOf};
 ghost use Rattle.jxl_list_rules.specs.Listed.{texts};
 ghost use Rattle.jxl_list_rules.specs.Turned.{Told, turnFrom, turnOf};
 ghost use Rattle.jxl_joiner.specs.Joiner.{handed};

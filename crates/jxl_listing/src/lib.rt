@@ -1,6 +1,7 @@
 // The lines of the listing: the bytes of one line, put into a lent buffer. The format stands in specs/Lines.antt of jxl_lines.
 use jxl_events::ParseEvent;
 use jxl_lines::Line;
+pub use jxl_lines::Put;
 use jxl_lines::StopWord;
 use jxl_record::BitstreamKind;
 ghost use mathlib.Core.Path.{_≡_};
@@ -11,15 +12,9 @@ ghost use Rattle.jxl_lines.specs.Digits.{decimal};
 ghost use Rattle.jxl_lines.specs.Lines.{rest, stopWord, text};
 ghost use Rattle.jxl_lines.specs.Lines as Lines;
 ghost use Rattle.jxl_lines.specs.Pasting.{Pasted};
-ghost use Rattle.jxl_listing.specs.Putting.{leaves, putOf};
+ghost use Rattle.jxl_lines.specs.Putting.{leaves, putOf};
 
 mod field;
-
-// Where the next line goes; or how many bytes the line that did not fit has.
-pub enum Put {
-    Written(usize),
-    NoRoom(usize),
-}
 
 // What the file is.
 fn kind_line(out: &mut [u8], at: usize, kind: BitstreamKind) -> usize
@@ -50,11 +45,12 @@ fn put_span(out: &mut [u8], at: usize, place: usize, len: usize) -> usize
     requires { ⌜ at + length (rest (decimal place ∷ decimal len ∷ [])) ≤ length (now out) ⌝ }
     ensures { λ r. ⌜ Pasted (now (out .entry)) at (rest (decimal place ∷ decimal len ∷ [])) (now (out .exit)) r ⌝ }
 {
-    let a = field::copy_in(out, at, b"\t");
-    let b = field::put_decimal(out, a, place);
-    let c = field::copy_in(out, b, b"\t");
-    let d = field::put_decimal(out, c, len);
-    field::copy_in(out, d, b"\n")
+    out[at] = b'\t';
+    let a = field::put_decimal(out, at + 1, place);
+    out[a] = b'\t';
+    let b = field::put_decimal(out, a + 1, len);
+    out[b] = b'\n';
+    b + 1
 }
 
 // A part of a side box, at its place in the file.
@@ -74,7 +70,8 @@ fn end_line(out: &mut [u8], at: usize, ty: u32) -> usize
 {
     let a = field::copy_in(out, at, b"end\t");
     let b = field::put_type(out, a, ty);
-    field::copy_in(out, b, b"\n")
+    out[b] = b'\n';
+    b + 1
 }
 
 // A part of the codestream, at its place in the file.
@@ -105,7 +102,8 @@ fn stop_line(out: &mut [u8], at: usize, stop: StopWord, consumed: usize) -> usiz
 {
     let a = put_stop(out, at, stop);
     let b = field::put_decimal(out, a, consumed);
-    field::copy_in(out, b, b"\n")
+    out[b] = b'\n';
+    b + 1
 }
 
 // A line, for which there is room.

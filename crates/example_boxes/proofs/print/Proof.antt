@@ -4,8 +4,8 @@ use mathlib.Core.Path.{sym, ap, _∙_}
 use native.Mathlib.Omega.{arith}
 use lib.Seq.{length-take-le}
 use borrow.Author.Needs.{needs}
-use Rattle.jxl_listing.specs.Putting.{leaves}
-use Rattle.jxl_listing.specs.declared.Put.{Put}
+use Rattle.jxl_lines.specs.Putting.{leaves}
+use Rattle.jxl_lines.specs.declared.Put.{Put}
 use Rattle.jxl_list_turn.proofs.Putting.{put-was}
 use Rattle.example_boxes.proofs.print.Statement.{statement}
 use Rattle.example_boxes.proofs.print.Tie as tie

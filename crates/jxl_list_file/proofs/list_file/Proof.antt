@@ -3,8 +3,8 @@ use mathlib.Core.List.{List}
 use Prim.Native.Nat.{ℕ}
 use native.Mathlib.Omega.{arith}
 use denote.Ref.{now}
-use Rattle.jxl_listing.specs.Putting.{leaves}
-use Rattle.jxl_listing.specs.declared.Put.the-variants.{Written, NoRoom}
+use Rattle.jxl_lines.specs.Putting.{leaves}
+use Rattle.jxl_lines.specs.declared.Put.the-variants.{Written, NoRoom}
 use Rattle.jxl_list_rules.specs.Listed.{fileText}
 use Rattle.jxl_list_rules.proofs.Text.{list-fits, list-refused}
 use borrow.Author.Needs.{needs}

@@ -1,8 +1,8 @@
 use mathlib.Core.Path.{_≡_, sym, ap, _∙_}
 use denote.Ref.{now}
 use Rattle.jxl_lines.specs.Lines.{text}
-use Rattle.jxl_listing.specs.Putting.{leaves}
-use Rattle.jxl_listing.specs.declared.Put.{Put}
+use Rattle.jxl_lines.specs.Putting.{leaves}
+use Rattle.jxl_lines.specs.declared.Put.{Put}
 use Rattle.jxl_list_file.proofs.Paste.{put-written, put-refused}
 use borrow.Author.Needs.{needs}
 use Rattle.jxl_list_file.proofs.put.Statement.{statement}

@@ -12,8 +12,8 @@ use Rattle.jxl_grammar.specs.Step.{shows, wants, refuses, stepOf}
 use Rattle.jxl_payloads.specs.Told.{told}
 use Rattle.jxl_grammar.specs.Feeding.{Seen}
 use Rattle.jxl_joiner.specs.declared.Joiner.{Joiner}
-use Rattle.jxl_listing.specs.Putting.{leaves}
-use Rattle.jxl_listing.specs.declared.Put.{Put}
+use Rattle.jxl_lines.specs.Putting.{leaves}
+use Rattle.jxl_lines.specs.declared.Put.{Put}
 use Rattle.jxl_lines.specs.declared.StopWord.{StopWord}
 use Rattle.jxl_list_rules.specs.Listed.{nextIn}
 use Rattle.jxl_list_rules.specs.Turned.{Told, turnFrom}

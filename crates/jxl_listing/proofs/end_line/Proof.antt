@@ -1,5 +1,8 @@
+use mathlib.Core.Path.{_∙_}
+use mathlib.Core.List.{[]}
 use native.Mathlib.Omega.{arith}
-use Rattle.jxl_lines.proofs.Bytes.{pasted-then}
+use lib.ListN.{length-set}
+use Rattle.jxl_lines.proofs.Bytes.{pasted-stored, pasted-then}
 use Rattle.jxl_lines.proofs.Numbers.{type-length}
 use Rattle.jxl_lines.proofs.Sizes.{end-size}
 use borrow.Author.Needs.{needs}
@@ -15,19 +18,25 @@ copy-in-requires c κs = search needs
 put-type-requires : tie.Need-put-type-requires
 put-type-requires c κs = omega (arith, end-size (c .before .before .before .before .before .before .before .args .ty))
 
-slice-aggregate-copy-in-2 : tie.Need-slice-aggregate-copy-in-2
-slice-aggregate-copy-in-2 c = search needs
+slice-write-out : tie.Need-slice-write-out
+slice-write-out c =
+    let a = c .before .before .before .before .before .before .before .before .before .before .args in
+    omega (arith, end-size (a .ty), type-length (a .ty))
 
-copy-in-requires-2 : tie.Need-copy-in-requires-2
-copy-in-requires-2 c κs = omega (arith, end-size (c .before .before .before .before .before .before .before .before .before .before .before .before .args .ty), type-length (c .before .before .before .before .before .before .before .before .before .before .before .before .args .ty))
+add-result : tie.Need-add-result
+add-result c =
+    let a = c .before .before .before .before .before .before .before .before .before .before .args in
+    omega (arith, end-size (a .ty), type-length (a .ty))
 
 same-length : tie.Need-same-length
-same-length c = search needs
+same-length c = simp length-set (c .before .before .put-type .kept .0 ∙ c .before .before .before .before .before .before .copy-in .kept .0)
 
 returns : tie.Need-returns
 returns c =
-    pasted-then (c .before .before .before .before .before .before .before .before .before .before .before .copy-in .ensures)
-    (pasted-then (c .before .before .before .before .before .before .before .put-type .ensures) (c .before .before .copy-in2 .ensures))
+    let a = c .before .before .before .before .before .before .before .before .before .before .args in
+    pasted-then (c .before .before .before .before .before .before .copy-in .ensures)
+    (pasted-then (c .before .before .put-type .ensures)
+    (pasted-stored _ _ 10 [] (omega (arith, end-size (a .ty), type-length (a .ty)))))
 
 pub end-line-spec : {M : Type 1} → statement M
 end-line-spec =
@@ -36,7 +45,7 @@ end-line-spec =
     slice-aggregate-copy-in
     copy-in-requires
     put-type-requires
-    slice-aggregate-copy-in-2
-    copy-in-requires-2
+    slice-write-out
+    add-result
     same-length
     returns)

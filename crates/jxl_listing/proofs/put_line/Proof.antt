@@ -2,7 +2,7 @@ use mathlib.Core.Logic.{⊎-elim}
 use native.Mathlib.Omega.{arith}
 use Rattle.jxl_lines.proofs.Sizes.{most-bytes, least-bytes}
 use Rattle.jxl_lines.proofs.Ranges.{in-range}
-use Rattle.jxl_listing.proofs.Putting.{no-room, room}
+use Rattle.jxl_lines.proofs.Putting.{no-room, room}
 use borrow.Author.Needs.{needs}
 use Rattle.jxl_listing.proofs.put_line.Statement.{statement}
 use Rattle.jxl_listing.proofs.put_line.Tie as tie

@@ -1,55 +1,76 @@
+use mathlib.Core.List.{[]}
 use native.Mathlib.Omega.{arith}
-use Rattle.jxl_lines.proofs.Bytes.{pasted-then}
+use lib.ListN.{length-set}
+use denote.Ref.{now}
+use Rattle.jxl_lines.proofs.Bytes.{pasted-stored, pasted-then}
 use Rattle.jxl_lines.proofs.Sizes.{span-size}
 use borrow.Author.Needs.{needs}
 use Rattle.jxl_listing.proofs.put_span.Statement.{statement}
 use Rattle.jxl_listing.proofs.put_span.Tie as tie
 
-slice-aggregate-copy-in : tie.Need-slice-aggregate-copy-in
-slice-aggregate-copy-in c = search needs
+slice-write-out : tie.Need-slice-write-out
+slice-write-out c = search needs
 
-copy-in-requires : tie.Need-copy-in-requires
-copy-in-requires c κs = search needs
+add-put-decimal : tie.Need-add-put-decimal
+add-put-decimal c = search needs
 
 put-decimal-requires : tie.Need-put-decimal-requires
-put-decimal-requires c κs = omega (arith, span-size (c .before .before .before .before .before .before .before .args .place) (c .before .before .before .before .before .before .before .args .len))
+put-decimal-requires c κs =
+    let a = c .before .before .args in
+    omega (arith, span-size (a .place) (a .len), length-set (now (a .out)) (a .at) 9)
 
-slice-aggregate-copy-in-2 : tie.Need-slice-aggregate-copy-in-2
-slice-aggregate-copy-in-2 c = search needs
+slice-write-out-2 : tie.Need-slice-write-out-2
+slice-write-out-2 c =
+    let a = c .before .before .before .before .before .args in
+    omega (arith, span-size (a .place) (a .len), length-set (now (a .out)) (a .at) 9)
 
-copy-in-requires-2 : tie.Need-copy-in-requires-2
-copy-in-requires-2 c κs = omega (arith, span-size (c .before .before .before .before .before .before .before .before .before .before .before .before .args .place) (c .before .before .before .before .before .before .before .before .before .before .before .before .args .len))
+add-put-decimal-2 : tie.Need-add-put-decimal-2
+add-put-decimal-2 c =
+    let a = c .before .before .before .before .before .before .args in
+    omega (arith, span-size (a .place) (a .len), length-set (now (a .out)) (a .at) 9)
 
 put-decimal-requires-2 : tie.Need-put-decimal-requires-2
-put-decimal-requires-2 c κs = omega (arith, span-size (c .before .before .before .before .before .before .before .before .before .before .before .before .before .before .before .before .args .place) (c .before .before .before .before .before .before .before .before .before .before .before .before .before .before .before .before .args .len))
+put-decimal-requires-2 c κs =
+    let a = c .before .before .before .before .before .before .args in
+    simp length-set (omega (arith, span-size (a .place) (a .len), length-set (now (a .out)) (a .at) 9))
 
-slice-aggregate-copy-in-3 : tie.Need-slice-aggregate-copy-in-3
-slice-aggregate-copy-in-3 c = search needs
+slice-write-out-3 : tie.Need-slice-write-out-3
+slice-write-out-3 c =
+    let a = c .before .before .before .before .before .before .before .before .before .args in
+    omega (arith, span-size (a .place) (a .len), simp length-set at (c .before .before .before .before .before .before .put-decimal .kept .0), simp length-set at (c .before .before .put-decimal2 .kept .0))
 
-copy-in-requires-3 : tie.Need-copy-in-requires-3
-copy-in-requires-3 c κs = omega (arith, span-size (c .before .before .before .before .before .before .before .before .before .before .before .before .before .before .before .before .before .before .before .before .before .args .place) (c .before .before .before .before .before .before .before .before .before .before .before .before .before .before .before .before .before .before .before .before .before .args .len))
+add-result : tie.Need-add-result
+add-result c =
+    let a = c .before .before .before .before .before .before .before .before .before .args in
+    omega (arith, span-size (a .place) (a .len), length-set (now (a .out)) (a .at) 9)
 
 same-length : tie.Need-same-length
-same-length c = search needs
+same-length c = simp length-set (omega (arith, simp length-set at (c .before .before .before .before .before .before .put-decimal .kept .0), simp length-set at (c .before .before .put-decimal2 .kept .0)))
 
 returns : tie.Need-returns
 returns c =
-    pasted-then (c .before .before .before .before .before .before .before .before .before .before .before .before .before .before .before .before .before .before .before .before .copy-in .ensures)
-    (pasted-then (c .before .before .before .before .before .before .before .before .before .before .before .before .before .before .before .before .put-decimal .ensures)
-    (pasted-then (c .before .before .before .before .before .before .before .before .before .before .before .copy-in2 .ensures)
-    (pasted-then (c .before .before .before .before .before .before .before .put-decimal2 .ensures) (c .before .before .copy-in3 .ensures))))
+    let a = c .before .before .before .before .before .before .before .before .before .args in
+    let size = span-size (a .place) (a .len) in
+    let first = c .before .before .before .before .before .before .put-decimal .ensures in
+    let second = c .before .before .put-decimal2 .ensures in
+    let kept = simp length-set at (c .before .before .before .before .before .before .put-decimal .kept .0) in
+    let kept-too = simp length-set at (c .before .before .put-decimal2 .kept .0) in
+    pasted-then (pasted-stored (now (a .out)) (a .at) 9 [] (omega arith))
+    (pasted-then first
+    (pasted-then (pasted-stored _ _ 9 [] (omega arith))
+    (pasted-then second (pasted-stored _ _ 10 [] (omega arith)))))
 
 pub put-span-spec : {M : Type 1} → statement M
 put-span-spec =
     tie.close
     (tie.spec
-    slice-aggregate-copy-in
-    copy-in-requires
+    slice-write-out
+    add-put-decimal
     put-decimal-requires
-    slice-aggregate-copy-in-2
-    copy-in-requires-2
+    slice-write-out-2
+    add-put-decimal-2
     put-decimal-requires-2
-    slice-aggregate-copy-in-3
-    copy-in-requires-3
+    slice-write-out-3
+    add-result
     same-length
     returns)

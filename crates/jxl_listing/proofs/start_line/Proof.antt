@@ -1,9 +1,9 @@
-use lib.ListN.{length, length-append}
+use lib.ListN.{length}
 use mathlib.Core.Path.{ap}
 use native.Mathlib.Omega.{arith}
 use Rattle.jxl_lines.proofs.Bytes.{pasted-as, pasted-then}
 use Rattle.jxl_lines.proofs.Numbers.{type-length}
-use Rattle.jxl_lines.proofs.Sizes.{brob-either, end-either, start-size}
+use Rattle.jxl_lines.proofs.Sizes.{brob-either, end-either, end-either-size, start-size}
 use borrow.Author.Needs.{needs}
 use Rattle.jxl_listing.proofs.start_line.Statement.{statement}
 use Rattle.jxl_listing.proofs.start_line.Tie as tie
@@ -39,7 +39,7 @@ slice-aggregate-put-either-4 c = search needs
 put-either-requires-2 : tie.Need-put-either-requires-2
 put-either-requires-2 c κs =
     let a = c .before .before .before .before .before .before .before .before .before .before .before .before .before .before .before .before .before .before .before .args in
-    omega (arith, start-size (a .ty) (a .brotli) (a .to-end), type-length (a .ty), ap length (brob-either (a .brotli)), simp length-append at (ap length (end-either (a .to-end))))
+    omega (arith, start-size (a .ty) (a .brotli) (a .to-end), type-length (a .ty), ap length (brob-either (a .brotli)), end-either-size (a .to-end))
 
 same-length : tie.Need-same-length
 same-length c = search needs

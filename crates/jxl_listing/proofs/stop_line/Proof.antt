@@ -1,7 +1,9 @@
-use Rattle.jxl_lines.proofs.Bytes.{pasted-as, pasted-then}
-use Rattle.jxl_lines.proofs.Sizes.{stop-size, stop-start-size, stop-text}
+use mathlib.Core.Path.{_∙_}
+use mathlib.Core.List.{[]}
 use native.Mathlib.Omega.{arith}
-use borrow.Author.Needs.{needs}
+use lib.ListN.{length-set}
+use Rattle.jxl_lines.proofs.Bytes.{pasted-as, pasted-stored, pasted-then}
+use Rattle.jxl_lines.proofs.Sizes.{stop-size, stop-start-size, stop-text}
 use Rattle.jxl_listing.proofs.stop_line.Statement.{statement}
 use Rattle.jxl_listing.proofs.stop_line.Tie as tie
 
@@ -15,30 +17,28 @@ put-decimal-requires c κs =
     let a = c .before .before .before .before .before .before .args in
     omega (arith, stop-size (a .stop) (a .consumed), stop-start-size (a .stop))
 
-slice-aggregate-copy-in : tie.Need-slice-aggregate-copy-in
-slice-aggregate-copy-in c = search needs
+slice-write-out : tie.Need-slice-write-out
+slice-write-out c =
+    let a = c .before .before .before .before .before .before .before .before .before .args in
+    omega (arith, stop-size (a .stop) (a .consumed), stop-start-size (a .stop))
 
-copy-in-requires : tie.Need-copy-in-requires
-copy-in-requires c κs =
-    let a = c .before .before .before .before .before .before .before .before .before .before .before .args in
+add-result : tie.Need-add-result
+add-result c =
+    let a = c .before .before .before .before .before .before .before .before .before .args in
     omega (arith, stop-size (a .stop) (a .consumed), stop-start-size (a .stop))
 
 same-length : tie.Need-same-length
-same-length c = search needs
+same-length c = simp length-set (c .before .before .put-decimal .kept .0 ∙ c .before .before .before .before .before .before .put-stop .kept .0)
 
 returns : tie.Need-returns
 returns c =
-    let a = c .before .before .before .before .before .before .before .before .before .before .before .before .before .before .args in
+    let a = c .before .before .before .before .before .before .before .before .before .args in
     pasted-as (stop-text (a .stop) (a .consumed))
-    (pasted-then (c .before .before .before .before .before .before .before .before .before .before .before .put-stop .ensures) (pasted-then (c .before .before .before .before .before .before .before .put-decimal .ensures) (c .before .before .copy-in .ensures)))
+    (pasted-then (c .before .before .before .before .before .before .put-stop .ensures)
+    (pasted-then (c .before .before .put-decimal .ensures)
+    (pasted-stored _ _ 10 [] (omega (arith, stop-size (a .stop) (a .consumed), stop-start-size (a .stop))))))
 
 pub stop-line-spec : {M : Type 1} → statement M
 stop-line-spec =
     tie.close
-    (tie.spec
-    put-stop-requires
-    put-decimal-requires
-    slice-aggregate-copy-in
-    copy-in-requires
-    same-length
-    returns)
+    (tie.spec put-stop-requires put-decimal-requires slice-write-out add-result same-length returns)

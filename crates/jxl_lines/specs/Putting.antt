@@ -4,9 +4,9 @@ use Prim.Native.Nat.{ℕ, _+_}
 use lib.Dec.{leb}
 use lib.ListN.{length}
 use Rattle.jxl_headers.specs.Bytes.{if}
 use Rattle.jxl_lines.specs.Pasting.{pasted}
-use Rattle.jxl_listing.specs.declared.Put.{Put}
-use Rattle.jxl_listing.specs.declared.Put.the-variants.{Written, NoRoom}
+use Rattle.jxl_lines.specs.declared.Put.{Put}
+use Rattle.jxl_lines.specs.declared.Put.the-variants.{Written, NoRoom}
 
 -- an answer, and the buffer then
 pub data Outcome : Type 0 where

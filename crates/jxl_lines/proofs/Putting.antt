@@ -1,0 +1,30 @@
+-- Bytes put into a buffer with room for them, and into one without.
+use mathlib.Core.Path.{_≡_, sym, ap, _∙_}
+use mathlib.Core.List.{List}
+use Prim.Native.Nat.{ℕ, _+_, _<_}
+use native.Mathlib.Omega.{arith}
+use lib.ListN.{length}
+use borrow.Author.Tests.{le-leb, lt-leb}
+use Rattle.jxl_lines.specs.Pasting.{Pasted}
+use Rattle.jxl_lines.specs.Putting.{leaves, putOf}
+use Rattle.jxl_lines.specs.Theorems.{PutWhereRoom, KeptWithoutRoom}
+use Rattle.jxl_lines.specs.declared.Put.the-variants.{Written, NoRoom}
+
+pub put-where-room : PutWhereRoom
+unfolding putOf
+put-where-room d at w h = rw (le-leb (at + length w) (length d) h)
+
+pub kept-without-room : KeptWithoutRoom
+unfolding putOf
+kept-without-room d at w h = rw (lt-leb (at + length w) (length d) h)
+
+module _ (d : List ℕ) (at : ℕ) (w : List ℕ) where
+  pub no-room : {n : ℕ} → n ≡ length w → length d < at + n → leaves (NoRoom n) d ≡ putOf d at w
+  no-room {n} m h = ap (λ (k : ℕ). leaves (NoRoom k) d) m ∙ sym (kept-without-room d at w (omega arith))
+
+pub room : {d w e : List ℕ} {at r : ℕ} → Pasted d at w e r → leaves (Written r) e ≡ putOf d at w
+room {d} {w} {e} {at} {r} p =
+    let bytes = p .bytes in
+    let next = p .next in
+    let put = put-where-room d at w (p .room) in
+    cc
