@@ -29,10 +29,6 @@ pasted-stored d at b w h =
 pub pasted-as : {d v w e : List ℕ} {at r : ℕ} → v ≡ w → Pasted d at v e r → Pasted d at w e r
 pasted-as {d} {v} {w} {e} {at} {r} same p = subst (λ (l : List ℕ). Pasted d at l e r) same p
 
--- the same place by another name
-pub pasted-at : {d w e : List ℕ} {i j r : ℕ} → i ≡ j → Pasted d i w e r → Pasted d j w e r
-pasted-at {d} {w} {e} {i} {j} {r} same p = subst (λ (k : ℕ). Pasted d k w e r) same p
-
 -- one word behind the other
 pub pasted-then : {d e f x y : List ℕ} {at r s : ℕ} → Pasted d at x e r → Pasted e r y f s → Pasted d at (x ++ y) f s
 pasted-then {d} {e} {f} {x} {y} {at} {r} {s} p q =

@@ -84,15 +84,16 @@ pub type-length : (t : ℕ) → length (hex8 t) ≡ 8
 unfolding hex8
 type-length t = hex-length 8 t
 
--- the last four characters of a number
-pub four-glyphs : (n : ℕ) {a b c d : ℕ} → a ≡ glyph (n / 0x1000 % 16) → b ≡ glyph (n / 0x100 % 16) → c ≡ glyph (n / 0x10 % 16) → d ≡ glyph (n % 16)
-    → a ∷ b ∷ c ∷ d ∷ [] ≡ hexDigits 4 n
-four-glyphs n first second third fourth =
-    let two : n / 16 / 16 ≡ n / 0x100 = omega arith in
-    let three : n / 16 / 16 / 16 ≡ n / 0x1000 = omega arith in
-    cc
-
--- a type has four from its high half, and four from its low one
-pub type-halves : (t : ℕ) → hex8 t ≡ hexDigits 4 (t / 0x1_0000) ++ hexDigits 4 t
+-- the eight characters of a type
+pub type-glyphs : (t : ℕ) {a b c d e f g h : ℕ} → a ≡ glyph (t / 0x1000_0000 % 16) → b ≡ glyph (t / 0x100_0000 % 16) → c ≡ glyph (t / 0x10_0000 % 16)
+    → d ≡ glyph (t / 0x1_0000 % 16) → e ≡ glyph (t / 0x1000 % 16) → f ≡ glyph (t / 0x100 % 16) → g ≡ glyph (t / 0x10 % 16) → h ≡ glyph (t % 16)
+    → a ∷ b ∷ c ∷ d ∷ e ∷ f ∷ g ∷ h ∷ [] ≡ hex8 t
 unfolding hex8
-type-halves t = let high : t / 16 / 16 / 16 / 16 ≡ t / 0x1_0000 = omega arith in cc
+type-glyphs t first second third fourth fifth sixth seventh eighth =
+    let two : t / 16 / 16 ≡ t / 0x100 = omega arith in
+    let three : t / 16 / 16 / 16 ≡ t / 0x1000 = omega arith in
+    let four : t / 16 / 16 / 16 / 16 ≡ t / 0x1_0000 = omega arith in
+    let five : t / 16 / 16 / 16 / 16 / 16 ≡ t / 0x10_0000 = omega arith in
+    let six : t / 16 / 16 / 16 / 16 / 16 / 16 ≡ t / 0x100_0000 = omega arith in
+    let seven : t / 16 / 16 / 16 / 16 / 16 / 16 / 16 ≡ t / 0x1000_0000 = omega arith in
+    cc

@@ -10,13 +10,13 @@ use Rattle.jxl_lines.specs.Putting.{leaves, putOf}
 use Rattle.jxl_lines.specs.Theorems.{PutWhereRoom, KeptWithoutRoom}
 use Rattle.jxl_lines.specs.declared.Put.the-variants.{Written, NoRoom}
 
-pub put-where-room : PutWhereRoom
-unfolding putOf
-put-where-room d at w h = rw (le-leb (at + length w) (length d) h)
-
 pub kept-without-room : KeptWithoutRoom
 unfolding putOf
-kept-without-room d at w h = rw (lt-leb (at + length w) (length d) h)
+kept-without-room d at w h = rw lt-leb
+
+pub put-where-room : PutWhereRoom
+unfolding putOf
+put-where-room d at w h = rw le-leb
 
 module _ (d : List ℕ) (at : ℕ) (w : List ℕ) where
   pub no-room : {n : ℕ} → n ≡ length w → length d < at + n → leaves (NoRoom n) d ≡ putOf d at w
