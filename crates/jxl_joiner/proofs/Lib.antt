@@ -1,2 +1,1 @@
-mod Parts
 pub mod Unique
