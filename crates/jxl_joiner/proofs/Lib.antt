@@ -1,1 +1,2 @@
+mod Others
 pub mod Unique

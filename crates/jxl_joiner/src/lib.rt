@@ -40,19 +40,7 @@ fn code_at(a: usize, n: usize, event: ParseEvent) -> bool
 {
     match event {
         ParseEvent::Codestream { at, len: _ } => ends_at(a, n, at),
-        ParseEvent::BitstreamKind(_) => false,
-        ParseEvent::NoMoreAuxBox => false,
-        ParseEvent::AuxBoxStart {
-            ty: _,
-            brotli_compressed: _,
-            last_box: _,
-        } => false,
-        ParseEvent::AuxBoxData {
-            ty: _,
-            at: _,
-            len: _,
-        } => false,
-        ParseEvent::AuxBoxEnd { ty: _ } => false,
+        _ => false,
     }
 }
 
@@ -64,15 +52,7 @@ fn aux_at(t: u32, a: usize, n: usize, event: ParseEvent) -> bool
         ParseEvent::AuxBoxData { ty, at, len: _ } => {
             if t == ty { ends_at(a, n, at) } else { false }
         }
-        ParseEvent::BitstreamKind(_) => false,
-        ParseEvent::NoMoreAuxBox => false,
-        ParseEvent::Codestream { at: _, len: _ } => false,
-        ParseEvent::AuxBoxStart {
-            ty: _,
-            brotli_compressed: _,
-            last_box: _,
-        } => false,
-        ParseEvent::AuxBoxEnd { ty: _ } => false,
+        _ => false,
     }
 }
 
@@ -83,14 +63,7 @@ fn joins(first: ParseEvent, second: ParseEvent) -> bool
     match first {
         ParseEvent::Codestream { at, len } => code_at(at, len, second),
         ParseEvent::AuxBoxData { ty, at, len } => aux_at(ty, at, len, second),
-        ParseEvent::BitstreamKind(_) => false,
-        ParseEvent::NoMoreAuxBox => false,
-        ParseEvent::AuxBoxStart {
-            ty: _,
-            brotli_compressed: _,
-            last_box: _,
-        } => false,
-        ParseEvent::AuxBoxEnd { ty: _ } => false,
+        _ => false,
     }
 }
 
@@ -101,14 +74,7 @@ fn length_of(event: ParseEvent) -> usize
     match event {
         ParseEvent::Codestream { at: _, len } => len,
         ParseEvent::AuxBoxData { ty: _, at: _, len } => len,
-        ParseEvent::BitstreamKind(_) => 0,
-        ParseEvent::NoMoreAuxBox => 0,
-        ParseEvent::AuxBoxStart {
-            ty: _,
-            brotli_compressed: _,
-            last_box: _,
-        } => 0,
-        ParseEvent::AuxBoxEnd { ty: _ } => 0,
+        _ => 0,
     }
 }
 
@@ -155,19 +121,18 @@ fn put(held: ParseEvent, event: ParseEvent) -> Added
     ensures { λ r. ⌜ r ≡ adding (MaybeEvent.Some held) event ⌝ }
 {
     if extends(held, event) {
-        Added {
+        return Added {
             out: MaybeEvent::None,
             next: Joiner {
                 held: MaybeEvent::Some(longer(length_of(event), held)),
             },
-        }
-    } else {
-        Added {
-            out: MaybeEvent::Some(held),
-            next: Joiner {
-                held: MaybeEvent::Some(event),
-            },
-        }
+        };
+    }
+    Added {
+        out: MaybeEvent::Some(held),
+        next: Joiner {
+            held: MaybeEvent::Some(event),
+        },
     }
 }
 
@@ -187,13 +152,15 @@ impl Joiner {
     {
         let held = self.held;
         match held {
-            MaybeEvent::None => Added {
-                out: MaybeEvent::None,
-                next: Joiner {
-                    held: MaybeEvent::Some(event),
-                },
-            },
-            MaybeEvent::Some(first) => put(first, event),
+            MaybeEvent::None => {
+                return Added {
+                    out: MaybeEvent::None,
+                    next: Joiner {
+                        held: MaybeEvent::Some(event),
+                    },
+                };
+            }
+            MaybeEvent::Some(first) => return put(first, event),
         }
     }
 

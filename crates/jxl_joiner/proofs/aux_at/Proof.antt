@@ -1,5 +1,6 @@
 use borrow.Author.Tests.{eq-eqb, ne-eqb}
 use borrow.Author.Needs.{needs}
+use Rattle.jxl_joiner.proofs.Others.{no-aux}
 use Rattle.jxl_joiner.proofs.aux_at.Statement.{statement}
 use Rattle.jxl_joiner.proofs.aux_at.Tie as tie
 
@@ -9,21 +10,6 @@ enum-known-event c = search needs
 ends-at-requires : tie.Need-ends-at-requires
 ends-at-requires c κs = search needs
 
-enum-told : tie.Need-enum-told
-enum-told c = search needs
-
-enum-told-2 : tie.Need-enum-told-2
-enum-told-2 c = search needs
-
-enum-told-3 : tie.Need-enum-told-3
-enum-told-3 c = search needs
-
-enum-told-4 : tie.Need-enum-told-4
-enum-told-4 c = search needs
-
-enum-told-5 : tie.Need-enum-told-5
-enum-told-5 c = search needs
-
 returns : tie.Need-returns
 returns c = rw (c .before .before .before .event .given .1, eq-eqb _ _ (c .before .if1 .taken)) (c .ends-at .ensures)
 
@@ -31,35 +17,7 @@ returns-2 : tie.Need-returns-2
 returns-2 c = rw (c .before .before .event .given .1, ne-eqb _ _ (c .if1 .left))
 
 returns-3 : tie.Need-returns-3
-returns-3 c = search needs
-
-returns-4 : tie.Need-returns-4
-returns-4 c = search needs
-
-returns-5 : tie.Need-returns-5
-returns-5 c = search needs
-
-returns-6 : tie.Need-returns-6
-returns-6 c = search needs
-
-returns-7 : tie.Need-returns-7
-returns-7 c = search needs
+returns-3 c = no-aux (c .before .args .t) _ (c .before .args .event) (c .match .keys2)
 
 pub aux-at-spec : {M : Type 1} → statement M
-aux-at-spec =
-    tie.close
-    (tie.spec
-    enum-known-event
-    ends-at-requires
-    enum-told
-    enum-told-2
-    enum-told-3
-    enum-told-4
-    enum-told-5
-    returns
-    returns-2
-    returns-3
-    returns-4
-    returns-5
-    returns-6
-    returns-7)
+aux-at-spec = tie.close (tie.spec enum-known-event ends-at-requires returns returns-2 returns-3)

@@ -1,4 +1,5 @@
 use borrow.Author.Needs.{needs}
+use Rattle.jxl_joiner.proofs.Others.{no-payload}
 use Rattle.jxl_joiner.proofs.joins.Statement.{statement}
 use Rattle.jxl_joiner.proofs.joins.Tie as tie
 
@@ -14,18 +15,6 @@ enum-known-first-2 c = search needs
 aux-at-requires : tie.Need-aux-at-requires
 aux-at-requires c κs = search needs
 
-enum-told : tie.Need-enum-told
-enum-told c = search needs
-
-enum-told-2 : tie.Need-enum-told-2
-enum-told-2 c = search needs
-
-enum-told-3 : tie.Need-enum-told-3
-enum-told-3 c = search needs
-
-enum-told-4 : tie.Need-enum-told-4
-enum-told-4 c = search needs
-
 returns : tie.Need-returns
 returns c = rw (c .before .before .first .given .1) (c .code-at .ensures)
 
@@ -33,32 +22,8 @@ returns-2 : tie.Need-returns-2
 returns-2 c = rw (c .before .before .first2 .given .1) (c .aux-at .ensures)
 
 returns-3 : tie.Need-returns-3
-returns-3 c = search needs
-
-returns-4 : tie.Need-returns-4
-returns-4 c = search needs
-
-returns-5 : tie.Need-returns-5
-returns-5 c = search needs
-
-returns-6 : tie.Need-returns-6
-returns-6 c = search needs
+returns-3 c = no-payload (c .before .args .first) (c .before .args .second) (c .match .keys3) .0
 
 pub joins-spec : {M : Type 1} → statement M
 joins-spec =
-    tie.close
-    (tie.spec
-    enum-known-first
-    code-at-requires
-    enum-known-first-2
-    aux-at-requires
-    enum-told
-    enum-told-2
-    enum-told-3
-    enum-told-4
-    returns
-    returns-2
-    returns-3
-    returns-4
-    returns-5
-    returns-6)
+    tie.close (tie.spec enum-known-first code-at-requires enum-known-first-2 aux-at-requires returns returns-2 returns-3)

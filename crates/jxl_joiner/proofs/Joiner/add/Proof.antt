@@ -18,4 +18,4 @@ returns-2 : tie.Need-returns-2
 returns-2 c = rw (c .before .before .held .given .1) (c .put .ensures)
 
 pub add-spec : {M : Type 1} → statement M
-add-spec = tie.close (tie.spec enum-told enum-known-held put-requires returns returns-2)
+add-spec = tie.close (tie.spec enum-told returns enum-known-held put-requires returns-2)
