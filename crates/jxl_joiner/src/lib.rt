@@ -5,7 +5,7 @@ ghost use Prim.Native.Nat.{_+_, _^_, _<_};
 ghost use lib.Dec.{eqb};
 ghost use Rattle.jxl_events.specs.Event.{lengthOf};
 ghost use Rattle.jxl_joiner.specs.Joined as Spec;
-ghost use Rattle.jxl_joiner.specs.Joiner.{adding, extends};
+ghost use Rattle.jxl_joiner.specs.Joiner.{added, adding, extends};
 
 // An event, or none.
 pub enum MaybeEvent {
@@ -116,24 +116,26 @@ fn extends(first: ParseEvent, second: ParseEvent) -> bool
     }
 }
 
+// What is handed back, and the event held from then on.
+fn holding(out: MaybeEvent, event: ParseEvent) -> Added
+    ensures { λ r. ⌜ r ≡ added out (MaybeEvent.Some event) ⌝ }
+{
+    Added {
+        out,
+        next: Joiner {
+            held: MaybeEvent::Some(event),
+        },
+    }
+}
+
 // What adding `event` behind `held` does.
 fn put(held: ParseEvent, event: ParseEvent) -> Added
     ensures { λ r. ⌜ r ≡ adding (MaybeEvent.Some held) event ⌝ }
 {
     if extends(held, event) {
-        return Added {
-            out: MaybeEvent::None,
-            next: Joiner {
-                held: MaybeEvent::Some(longer(length_of(event), held)),
-            },
-        };
+        return holding(MaybeEvent::None, longer(length_of(event), held));
     }
-    Added {
-        out: MaybeEvent::Some(held),
-        next: Joiner {
-            held: MaybeEvent::Some(event),
-        },
-    }
+    holding(MaybeEvent::Some(held), event)
 }
 
 impl Joiner {
@@ -152,14 +154,7 @@ impl Joiner {
     {
         let held = self.held;
         match held {
-            MaybeEvent::None => {
-                return Added {
-                    out: MaybeEvent::None,
-                    next: Joiner {
-                        held: MaybeEvent::Some(event),
-                    },
-                };
-            }
+            MaybeEvent::None => return holding(MaybeEvent::None, event),
             MaybeEvent::Some(first) => return put(first, event),
         }
     }

@@ -1,3 +1,4 @@
+use mathlib.Core.Path.{_∙_}
 use borrow.Author.Needs.{needs}
 use Rattle.jxl_joiner.proofs.Joiner.add.Statement.{statement}
 use Rattle.jxl_joiner.proofs.Joiner.add.Tie as tie
@@ -5,17 +6,20 @@ use Rattle.jxl_joiner.proofs.Joiner.add.Tie as tie
 enum-told : tie.Need-enum-told
 enum-told c = search needs
 
+holding-requires : tie.Need-holding-requires
+holding-requires c κs = search needs
+
+returns : tie.Need-returns
+returns c = c .holding .ensures ∙ rw (c .before .enum-told .given .1)
+
 enum-known-held : tie.Need-enum-known-held
 enum-known-held c = search needs
 
 put-requires : tie.Need-put-requires
 put-requires c κs = search needs
 
-returns : tie.Need-returns
-returns c = rw (c .enum-told .given .1)
-
 returns-2 : tie.Need-returns-2
 returns-2 c = rw (c .before .before .held .given .1) (c .put .ensures)
 
 pub add-spec : {M : Type 1} → statement M
-add-spec = tie.close (tie.spec enum-told returns enum-known-held put-requires returns-2)
+add-spec = tie.close (tie.spec enum-told holding-requires returns enum-known-held put-requires returns-2)
