@@ -1,2 +1,2 @@
-mod Parts
+mod Others
 pub mod Unique

@@ -1,4 +1,3 @@
 pub mod Joined
 pub mod Joiner
-pub mod Parts
 pub mod Theorems

@@ -5,8 +5,7 @@ ghost use Prim.Native.Nat.{_+_, _^_, _<_};
 ghost use lib.Dec.{eqb};
 ghost use Rattle.jxl_events.specs.Event.{lengthOf};
 ghost use Rattle.jxl_joiner.specs.Joined as Spec;
-ghost use Rattle.jxl_joiner.specs.Joiner.{added, adding};
-ghost use Rattle.jxl_joiner.specs.Parts.{partOf, follows};
+ghost use Rattle.jxl_joiner.specs.Joiner.{added, adding, extends};
 
 // An event, or none.
 pub enum MaybeEvent {
@@ -35,50 +34,47 @@ fn ends_at(a: usize, n: usize, b: usize) -> bool
     b - a == n
 }
 
-// Of which payload an event shows a part (0: none, 1: a codestream, 2 + t: a side box of type t), where, and how many bytes.
-struct Part {
-    of: u64,
-    at: usize,
-    len: usize,
-}
-
-// The part that an event shows.
-fn part_of(event: ParseEvent) -> Part
-    ensures { λ r. ⌜ r ≡ partOf event ⌝ }
+// Whether `event` is a part of a codestream that starts behind `n` bytes at `a`.
+fn code_at(a: usize, n: usize, event: ParseEvent) -> bool
+    ensures { λ r. ⌜ r ≡ Spec.codeAt (a + n) event ⌝ }
 {
     match event {
-        ParseEvent::Codestream { at, len } => return Part { of: 1, at, len },
-        ParseEvent::AuxBoxData { ty, at, len } => {
-            return Part {
-                of: 2 + ty as u64,
-                at,
-                len,
-            };
-        }
-        _ => {
-            return Part {
-                of: 0,
-                at: 0,
-                len: 0,
-            };
-        }
+        ParseEvent::Codestream { at, len: _ } => ends_at(a, n, at),
+        _ => false,
     }
 }
 
-// Whether the two are parts of one payload, the second where the first ends, and their length fits.
-fn follows(first: Part, second: Part) -> bool
-    ensures { λ r. ⌜ r ≡ follows first second ⌝ }
+// Whether `event` is a part of a side box of type `t` that starts behind `n` bytes at `a`.
+fn aux_at(t: u32, a: usize, n: usize, event: ParseEvent) -> bool
+    ensures { λ r. ⌜ r ≡ Spec.auxAt t (a + n) event ⌝ }
 {
-    if first.of == 0 {
-        return false;
+    match event {
+        ParseEvent::AuxBoxData { ty, at, len: _ } => {
+            if t == ty { ends_at(a, n, at) } else { false }
+        }
+        _ => false,
     }
-    if first.of != second.of {
-        return false;
+}
+
+// Whether the two are parts of one payload, the second where the first ends.
+fn joins(first: ParseEvent, second: ParseEvent) -> bool
+    ensures { λ r. ⌜ r ≡ Spec.joins first second ⌝ }
+{
+    match first {
+        ParseEvent::Codestream { at, len } => code_at(at, len, second),
+        ParseEvent::AuxBoxData { ty, at, len } => aux_at(ty, at, len, second),
+        _ => false,
     }
-    if ends_at(first.at, first.len, second.at) {
-        second.len <= 0xffff_ffff_ffff_ffff - first.len
-    } else {
-        false
+}
+
+// How many payload bytes the event shows.
+fn length_of(event: ParseEvent) -> usize
+    ensures { λ r. ⌜ r ≡ lengthOf event ⌝ }
+{
+    match event {
+        ParseEvent::Codestream { at: _, len } => len,
+        ParseEvent::AuxBoxData { ty: _, at: _, len } => len,
+        _ => 0,
     }
 }
 
@@ -88,17 +84,35 @@ fn longer(m: usize, event: ParseEvent) -> ParseEvent
     ensures { λ r. ⌜ r ≡ Spec.longer m event ⌝ }
 {
     match event {
-        ParseEvent::Codestream { at, len } => {
-            return ParseEvent::Codestream { at, len: len + m };
-        }
-        ParseEvent::AuxBoxData { ty, at, len } => {
-            return ParseEvent::AuxBoxData {
-                ty,
-                at,
-                len: len + m,
-            };
-        }
-        _ => return event,
+        ParseEvent::Codestream { at, len } => ParseEvent::Codestream { at, len: len + m },
+        ParseEvent::AuxBoxData { ty, at, len } => ParseEvent::AuxBoxData {
+            ty,
+            at,
+            len: len + m,
+        },
+        ParseEvent::BitstreamKind(k) => ParseEvent::BitstreamKind(k),
+        ParseEvent::NoMoreAuxBox => ParseEvent::NoMoreAuxBox,
+        ParseEvent::AuxBoxStart {
+            ty,
+            brotli_compressed: brotli,
+            last_box: to_end,
+        } => ParseEvent::AuxBoxStart {
+            ty,
+            brotli_compressed: brotli,
+            last_box: to_end,
+        },
+        ParseEvent::AuxBoxEnd { ty } => ParseEvent::AuxBoxEnd { ty },
+    }
+}
+
+// Whether the two are one part, whose length fits.
+fn extends(first: ParseEvent, second: ParseEvent) -> bool
+    ensures { λ r. ⌜ r ≡ extends first second ⌝ }
+{
+    if joins(first, second) {
+        length_of(second) <= 0xffff_ffff_ffff_ffff - length_of(first)
+    } else {
+        false
     }
 }
 
@@ -114,15 +128,14 @@ fn holding(out: MaybeEvent, event: ParseEvent) -> Added
     }
 }
 
-// What adding `event` behind `first` does.
-fn put(first: ParseEvent, event: ParseEvent) -> Added
-    ensures { λ r. ⌜ r ≡ adding (MaybeEvent.Some first) event ⌝ }
+// What adding `event` behind `held` does.
+fn put(held: ParseEvent, event: ParseEvent) -> Added
+    ensures { λ r. ⌜ r ≡ adding (MaybeEvent.Some held) event ⌝ }
 {
-    let more = part_of(event);
-    if follows(part_of(first), more) {
-        return holding(MaybeEvent::None, longer(more.len, first));
+    if extends(held, event) {
+        return holding(MaybeEvent::None, longer(length_of(event), held));
     }
-    holding(MaybeEvent::Some(first), event)
+    holding(MaybeEvent::Some(held), event)
 }
 
 impl Joiner {
@@ -141,7 +154,7 @@ impl Joiner {
     {
         let held = self.held;
         match held {
-            MaybeEvent::None => return holding(held, event),
+            MaybeEvent::None => return holding(MaybeEvent::None, event),
             MaybeEvent::Some(first) => return put(first, event),
         }
     }
