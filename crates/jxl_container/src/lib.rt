@@ -13,10 +13,8 @@ ghost use mathlib.Core.Bool.{false};
 ghost use mathlib.Core.List.{[]};
 ghost use Prim.Native.Nat.{_≤_};
 ghost use lib.ListN.{length, drop};
-ghost use Rattle.jxl_headers.specs.Bytes.{if};
 ghost use Rattle.jxl_headers.specs.Signature.{signatureOf};
 ghost use Rattle.jxl_headers.specs.Header.{headerOf};
-ghost use Rattle.jxl_record.specs.Record as Record;
 ghost use Rattle.jxl_record.specs.Record.{impossible, overIndex};
 ghost use Rattle.jxl_grammar.specs.Step as Spec;
 ghost use Rattle.jxl_payloads.specs.Told.{told};
@@ -93,16 +91,6 @@ fn same(p: ContainerParser) -> ContainerParser
     }
 }
 
-// More input is wanted.
-fn want(state: DetectState, jxlp: JxlpIndexState) -> StepResult
-    ensures { λ r. ⌜ told r ≡ Spec.wants (Record.at state jxlp) 0 ⌝ }
-{
-    StepResult::Want {
-        next: ContainerParser::at(state, jxlp),
-        consumed: 0,
-    }
-}
-
 // At the signature.
 fn signature_step(jxlp: JxlpIndexState, s: &[u8]) -> StepResult
     ensures { λ r. ⌜ told r ≡ Spec.signatureStep jxlp (signatureOf (now (s .entry))) ⌝ }
@@ -114,7 +102,10 @@ fn signature_step(jxlp: JxlpIndexState, s: &[u8]) -> StepResult
             next: ContainerParser::at(DetectState::WaitingBoxHeader, jxlp),
             consumed: 12,
         },
-        Signature::TooShort => want(DetectState::WaitingSignature, jxlp),
+        Signature::TooShort => StepResult::Want {
+            next: ContainerParser::at(DetectState::WaitingSignature, jxlp),
+            consumed: 0,
+        },
         Signature::Neither => kind_step(BitstreamKind::Invalid, jxlp),
     }
 }
@@ -180,22 +171,23 @@ fn jxlp_next(jxlp: JxlpIndexState, left: BytesLeft, s: &[u8], at: usize) -> Step
     }
 }
 
-// A `jxlp` or a `brob` box behind its header: a payload under the 4 bytes that it starts with is refused before all else.
-fn four_step(
-    jxlp: JxlpIndexState,
-    partial: bool,
-    left: BytesLeft,
-    s: &[u8],
-    at: usize,
-) -> StepResult
+// A `jxlp` box behind its header, its size looked at before its place in the row.
+fn jxlp_step(jxlp: JxlpIndexState, left: BytesLeft, s: &[u8], at: usize) -> StepResult
     requires { ⌜ overIndex jxlp ≡ false ⌝ }
-    ensures { λ r. ⌜ told r ≡ Spec.ahead at (if partial (Spec.jxlpStep jxlp left (drop at (now (s .entry)))) (Spec.brobStep jxlp left (drop at (now (s .entry))))) ⌝ }
+    ensures { λ r. ⌜ told r ≡ Spec.ahead at (Spec.jxlpStep jxlp left (drop at (now (s .entry)))) ⌝ }
 {
     if left.under(4) {
         return refuse_box(jxlp, at);
     }
-    if partial {
-        return jxlp_next(jxlp, left, s, at);
+    jxlp_next(jxlp, left, s, at)
+}
+
+// A `brob` box behind its header.
+fn brob_step(jxlp: JxlpIndexState, left: BytesLeft, s: &[u8], at: usize) -> StepResult
+    ensures { λ r. ⌜ told r ≡ Spec.ahead at (Spec.brobStep jxlp left (drop at (now (s .entry)))) ⌝ }
+{
+    if left.under(4) {
+        return refuse_box(jxlp, at);
     }
     inner_step(jxlp, left, s, at)
 }
@@ -209,10 +201,10 @@ fn box_step(jxlp: JxlpIndexState, ty: u32, left: BytesLeft, s: &[u8], at: usize)
         return jxlc_step(jxlp, left, s, at);
     }
     if ty == box_header::PARTIAL_CODESTREAM {
-        return four_step(jxlp, true, left, s, at);
+        return jxlp_step(jxlp, left, s, at);
     }
     if ty == box_header::BROTLI_COMPRESSED {
-        return four_step(jxlp, false, left, s, at);
+        return brob_step(jxlp, left, s, at);
     }
     StepResult::Shown {
         event: ParseEvent::AuxBoxStart {
@@ -236,12 +228,13 @@ fn header_step(jxlp: JxlpIndexState, s: &[u8]) -> StepResult
     requires { ⌜ overIndex jxlp ≡ false ⌝ }
     ensures { λ r. ⌜ told r ≡ Spec.headerStep jxlp (now (s .entry)) (headerOf (now (s .entry))) ⌝ }
 {
+    let waiting = ContainerParser::at(DetectState::WaitingBoxHeader, jxlp);
     match box_header::parse_header(s) {
-        HeaderParseResult::NeedMoreData => want(DetectState::WaitingBoxHeader, jxlp),
-        HeaderParseResult::Refused(refusal) => {
-            let waiting = ContainerParser::at(DetectState::WaitingBoxHeader, jxlp);
-            refuse(refusal, waiting, 0)
-        }
+        HeaderParseResult::NeedMoreData => StepResult::Want {
+            next: waiting,
+            consumed: 0,
+        },
+        HeaderParseResult::Refused(refusal) => refuse(refusal, waiting, 0),
         HeaderParseResult::Done {
             header,
             header_size,
@@ -259,7 +252,9 @@ fn awaited(jxlp: JxlpIndexState) -> u32
 {
     match jxlp {
         JxlpIndexState::Jxlp(i) => i,
-        _ => 0,
+        JxlpIndexState::Initial => 0,
+        JxlpIndexState::SingleJxlc => 0,
+        JxlpIndexState::JxlpFinished => 0,
     }
 }
 
@@ -284,10 +279,11 @@ fn state_step(p: ContainerParser, s: &[u8]) -> StepResult
             bytes_left: left,
             pending_no_more_aux_box,
         } => code_step(jxlp, kind, left, pending_no_more_aux_box, s, 0),
-        DetectState::Refused {
-            kind: _,
-            refusal: _,
-        } => empty_step(p),
+        DetectState::Refused { kind: _, refusal } => StepResult::Refused {
+            refusal,
+            next: p,
+            consumed: 0,
+        },
     }
 }
 
@@ -297,12 +293,39 @@ fn empty_step(p: ContainerParser) -> StepResult
 {
     let state = p.state;
     match state {
-        DetectState::Refused { kind: _, refusal } => StepResult::Refused {
-            refusal,
+        DetectState::WaitingSignature => StepResult::Want {
             next: p,
             consumed: 0,
         },
-        _ => StepResult::Want {
+        DetectState::WaitingBoxHeader => StepResult::Want {
+            next: p,
+            consumed: 0,
+        },
+        DetectState::WaitingJxlpIndex(_) => StepResult::Want {
+            next: p,
+            consumed: 0,
+        },
+        DetectState::WaitingInnerType(_) => StepResult::Want {
+            next: p,
+            consumed: 0,
+        },
+        DetectState::InAuxBox {
+            ty: _,
+            bytes_left: _,
+        } => StepResult::Want {
+            next: p,
+            consumed: 0,
+        },
+        DetectState::InCodestream {
+            kind: _,
+            bytes_left: _,
+            pending_no_more_aux_box: _,
+        } => StepResult::Want {
+            next: p,
+            consumed: 0,
+        },
+        DetectState::Refused { kind: _, refusal } => StepResult::Refused {
+            refusal,
             next: p,
             consumed: 0,
         },

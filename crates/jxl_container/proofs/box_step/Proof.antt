@@ -11,17 +11,17 @@ jxlc-step-requires c κs = search needs
 returns : tie.Need-returns
 returns c = rw (box-jxlc _ _ _ _ (c .before .if1 .taken)) (c .jxlc-step .ensures)
 
-four-step-requires : tie.Need-four-step-requires
-four-step-requires c κs = search needs
+jxlp-step-requires : tie.Need-jxlp-step-requires
+jxlp-step-requires c κs = search needs
 
 returns-2 : tie.Need-returns-2
-returns-2 c = rw (box-jxlp _ _ _ _ (c .before .if2 .taken)) (c .four-step .ensures)
+returns-2 c = rw (box-jxlp _ _ _ _ (c .before .if2 .taken)) (c .jxlp-step .ensures)
 
-four-step-requires-2 : tie.Need-four-step-requires-2
-four-step-requires-2 c κs = search needs
+brob-step-requires : tie.Need-brob-step-requires
+brob-step-requires c κs = search needs
 
 returns-3 : tie.Need-returns-3
-returns-3 c = rw (box-brob _ _ _ _ (c .before .if3 .taken)) (c .four-step2 .ensures)
+returns-3 c = rw (box-brob _ _ _ _ (c .before .if3 .taken)) (c .brob-step .ensures)
 
 to-end-requires : tie.Need-to-end-requires
 to-end-requires c κs = search needs
@@ -39,9 +39,9 @@ box-step-spec =
     (tie.spec
     jxlc-step-requires
     returns
-    four-step-requires
+    jxlp-step-requires
     returns-2
-    four-step-requires-2
+    brob-step-requires
     returns-3
     to-end-requires
     at-requires

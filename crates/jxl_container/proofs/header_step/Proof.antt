@@ -6,20 +6,17 @@ use borrow.Author.Needs.{needs}
 use Rattle.jxl_container.proofs.header_step.Statement.{statement}
 use Rattle.jxl_container.proofs.header_step.Tie as tie
 
+at-requires : tie.Need-at-requires
+at-requires c κs = search needs
+
 parse-header-requires : tie.Need-parse-header-requires
 parse-header-requires c κs = search needs
 
 enum-told : tie.Need-enum-told
 enum-told c = search needs
 
-want-requires : tie.Need-want-requires
-want-requires c κs = search needs
-
 enum-known-refusal : tie.Need-enum-known-refusal
 enum-known-refusal c = search needs
-
-at-requires : tie.Need-at-requires
-at-requires c κs = search needs
 
 refuse-requires : tie.Need-refuse-requires
 refuse-requires c κs = search needs
@@ -32,26 +29,25 @@ box-step-requires c κs = search needs
 
 returns : tie.Need-returns
 returns c =
-    rw (says (now (c .before .before .before .before .before .args .s)) short (c .before .before .before .parse-header .ensures) (ap toldHeader (c .before .enum-told .given .1))) (c .want .ensures)
+    rw (says (now (c .before .before .before .before .before .args .s)) short (c .before .before .parse-header .ensures) (ap toldHeader (c .enum-told .given .1)), c .before .before .before .at .ensures)
 
 returns-2 : tie.Need-returns-2
 returns-2 c =
     c .refuse .ensures
-    ∙ rw (says (now (c .before .before .before .before .before .before .before .args .s)) (bad (c .before .before .before .refusal .given .0 .0)) (c .before .before .before .before .before .parse-header .ensures) (ap toldHeader (c .before .before .before .refusal .given .1)), c .before .at .ensures)
+    ∙ rw (says (now (c .before .before .before .before .before .before .before .args .s)) (bad (c .before .before .refusal .given .0 .0)) (c .before .before .before .before .parse-header .ensures) (ap toldHeader (c .before .before .refusal .given .1)), c .before .before .before .before .before .at .ensures)
 
 returns-3 : tie.Need-returns-3
 returns-3 c =
-    rw (says (now (c .before .before .before .before .before .before .args .s)) (box _ _ _) (c .before .before .before .before .parse-header .ensures) (ap toldHeader (c .before .before .header .given .1))) (c .box-step .ensures)
+    rw (says (now (c .before .before .before .before .before .before .before .args .s)) (box _ _ _) (c .before .before .before .before .parse-header .ensures) (ap toldHeader (c .before .before .header .given .1))) (c .box-step .ensures)
 
 pub header-step-spec : {M : Type 1} → statement M
 header-step-spec =
     tie.close
     (tie.spec
+    at-requires
     parse-header-requires
     enum-told
-    want-requires
     enum-known-refusal
-    at-requires
     refuse-requires
     enum-known-header
     box-step-requires

@@ -21,8 +21,8 @@ at-requires c κs = search needs
 enum-told-3 : tie.Need-enum-told-3
 enum-told-3 c = search needs
 
-want-requires : tie.Need-want-requires
-want-requires c κs = search needs
+at-requires-2 : tie.Need-at-requires-2
+at-requires-2 c κs = search needs
 
 enum-told-4 : tie.Need-enum-told-4
 enum-told-4 c = search needs
@@ -37,7 +37,7 @@ returns-2 : tie.Need-returns-2
 returns-2 c = rw (sym (c .before .before .before .which-signature .ensures) ∙ c .before .enum-told2 .given .1, c .at .ensures)
 
 returns-3 : tie.Need-returns-3
-returns-3 c = rw (sym (c .before .before .before .which-signature .ensures) ∙ c .before .enum-told3 .given .1) (c .want .ensures)
+returns-3 c = rw (sym (c .before .before .before .which-signature .ensures) ∙ c .before .enum-told3 .given .1, c .at2 .ensures)
 
 returns-4 : tie.Need-returns-4
 returns-4 c = rw (sym (c .before .before .before .which-signature .ensures) ∙ c .before .enum-told4 .given .1) (c .kind-step2 .ensures)
@@ -52,7 +52,7 @@ signature-step-spec =
     enum-told-2
     at-requires
     enum-told-3
-    want-requires
+    at-requires-2
     enum-told-4
     kind-step-requires-2
     returns

@@ -1,6 +1,5 @@
 use mathlib.Core.Path.{_≡_, sym, ap, _∙_}
-use Rattle.jxl_record.specs.Record.{refusedIn}
-use Rattle.jxl_grammar.proofs.Step.{ahead-zero, step-empty-refused}
+use Rattle.jxl_grammar.proofs.Step.{ahead-zero}
 use borrow.Author.Needs.{needs}
 use Rattle.jxl_container.proofs.state_step.Statement.{statement}
 use Rattle.jxl_container.proofs.state_step.Tie as tie
@@ -44,11 +43,8 @@ enum-known-state-4 c = search needs
 code-step-requires : tie.Need-code-step-requires
 code-step-requires c κs = search needs
 
-enum-told-3 : tie.Need-enum-told-3
-enum-told-3 c = search needs
-
-empty-step-requires : tie.Need-empty-step-requires
-empty-step-requires c κs = search needs
+enum-known-state-5 : tie.Need-enum-known-state-5
+enum-known-state-5 c = search needs
 
 returns : tie.Need-returns
 returns c = rw (c .before .enum-told .given .1) (c .signature-step .ensures)
@@ -70,9 +66,7 @@ returns-6 : tie.Need-returns-6
 returns-6 c = rw (c .before .before .state4 .given .1) (rw ahead-zero at (c .code-step .ensures))
 
 returns-7 : tie.Need-returns-7
-returns-7 c =
-    let refused = c .before .enum-told3 .given .1 in
-    rw refused (rw refused at (c .empty-step .ensures ∙ step-empty-refused (c .before .before .before .before .args .p) (ap refusedIn refused)))
+returns-7 c = rw (c .before .state5 .given .1)
 
 pub state-step-spec : {M : Type 1} → statement M
 state-step-spec =
@@ -91,8 +85,7 @@ state-step-spec =
     aux-step-requires
     enum-known-state-4
     code-step-requires
-    enum-told-3
-    empty-step-requires
+    enum-known-state-5
     returns
     returns-2
     returns-3
