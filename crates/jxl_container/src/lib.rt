@@ -252,7 +252,9 @@ fn awaited(jxlp: JxlpIndexState) -> u32
 {
     match jxlp {
         JxlpIndexState::Jxlp(i) => i,
-        _ => 0,
+        JxlpIndexState::Initial => 0,
+        JxlpIndexState::SingleJxlc => 0,
+        JxlpIndexState::JxlpFinished => 0,
     }
 }
 
@@ -291,12 +293,39 @@ fn empty_step(p: ContainerParser) -> StepResult
 {
     let state = p.state;
     match state {
-        DetectState::Refused { kind: _, refusal } => StepResult::Refused {
-            refusal,
+        DetectState::WaitingSignature => StepResult::Want {
             next: p,
             consumed: 0,
         },
-        _ => StepResult::Want {
+        DetectState::WaitingBoxHeader => StepResult::Want {
+            next: p,
+            consumed: 0,
+        },
+        DetectState::WaitingJxlpIndex(_) => StepResult::Want {
+            next: p,
+            consumed: 0,
+        },
+        DetectState::WaitingInnerType(_) => StepResult::Want {
+            next: p,
+            consumed: 0,
+        },
+        DetectState::InAuxBox {
+            ty: _,
+            bytes_left: _,
+        } => StepResult::Want {
+            next: p,
+            consumed: 0,
+        },
+        DetectState::InCodestream {
+            kind: _,
+            bytes_left: _,
+            pending_no_more_aux_box: _,
+        } => StepResult::Want {
+            next: p,
+            consumed: 0,
+        },
+        DetectState::Refused { kind: _, refusal } => StepResult::Refused {
+            refusal,
             next: p,
             consumed: 0,
         },

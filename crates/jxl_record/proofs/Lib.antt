@@ -1,2 +1,1 @@
-mod Above
 pub mod Unique

@@ -1,3 +1,2 @@
-pub mod Above
 pub mod Record
 pub mod Theorems

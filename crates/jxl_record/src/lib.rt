@@ -2,8 +2,7 @@
 use jxl_headers::BoxRefusal;
 use jxl_headers::BytesLeft;
 ghost use mathlib.Core.Path.{_≡_};
-ghost use Rattle.jxl_record.specs.Above.{above};
-ghost use Rattle.jxl_record.specs.Record.{at, fresh, impossible, kindOf, overIndex};
+ghost use Rattle.jxl_record.specs.Record.{at, fresh, impossible, kindOf, noIndex, overIndex};
 
 // Structure of the decoded bitstream.
 pub enum BitstreamKind {
@@ -26,21 +25,28 @@ pub enum JxlpIndexState {
 }
 
 impl JxlpIndexState {
-    // Whether the current `jxlp` index is above `most`; `none` if no `jxlp` is open.
-    fn index_above(self, none: bool, most: u32) -> bool
-        ensures { λ r. ⌜ r ≡ above none most self ⌝ }
-    {
-        match self {
-            JxlpIndexState::Jxlp(i) => most < i,
-            _ => none,
-        }
-    }
-
     // Whether the current `jxlp` index is above 2^31 - 1, where none is awaited.
     pub fn over_index(self) -> bool
         ensures { λ r. ⌜ r ≡ overIndex self ⌝ }
     {
-        self.index_above(false, 0x7fff_ffff)
+        match self {
+            JxlpIndexState::Jxlp(i) => 0x8000_0000 <= i,
+            JxlpIndexState::Initial => false,
+            JxlpIndexState::SingleJxlc => false,
+            JxlpIndexState::JxlpFinished => false,
+        }
+    }
+
+    // Whether no `jxlp` is open, or its awaited index is above 2^31.
+    pub(crate) fn no_index(self) -> bool
+        ensures { λ r. ⌜ r ≡ noIndex self ⌝ }
+    {
+        match self {
+            JxlpIndexState::Jxlp(i) => 0x8000_0000 < i,
+            JxlpIndexState::Initial => true,
+            JxlpIndexState::SingleJxlc => true,
+            JxlpIndexState::JxlpFinished => true,
+        }
     }
 }
 
@@ -99,13 +105,19 @@ impl ContainerParser {
         let state = self.state;
         match state {
             DetectState::WaitingSignature => BitstreamKind::Unknown,
+            DetectState::WaitingBoxHeader => BitstreamKind::Container,
+            DetectState::WaitingJxlpIndex(_) => BitstreamKind::Container,
+            DetectState::WaitingInnerType(_) => BitstreamKind::Container,
+            DetectState::InAuxBox {
+                ty: _,
+                bytes_left: _,
+            } => BitstreamKind::Container,
             DetectState::InCodestream {
                 kind,
                 bytes_left: _,
                 pending_no_more_aux_box: _,
             } => kind,
             DetectState::Refused { kind, refusal: _ } => kind,
-            _ => BitstreamKind::Container,
         }
     }
 
@@ -117,11 +129,7 @@ impl ContainerParser {
         let jxlp = self.jxlp;
         match state {
             DetectState::WaitingJxlpIndex(left) => {
-                if jxlp.index_above(true, 0x8000_0000) {
-                    true
-                } else {
-                    left.under(4)
-                }
+                if jxlp.no_index() { true } else { left.under(4) }
             }
             DetectState::WaitingInnerType(left) => {
                 if jxlp.over_index() {
@@ -134,7 +142,17 @@ impl ContainerParser {
                 kind: _,
                 refusal: _,
             } => false,
-            _ => jxlp.over_index(),
+            DetectState::WaitingSignature => jxlp.over_index(),
+            DetectState::WaitingBoxHeader => jxlp.over_index(),
+            DetectState::InAuxBox {
+                ty: _,
+                bytes_left: _,
+            } => jxlp.over_index(),
+            DetectState::InCodestream {
+                kind: _,
+                bytes_left: _,
+                pending_no_more_aux_box: _,
+            } => jxlp.over_index(),
         }
     }
 }

@@ -1,34 +1,13 @@
-use mathlib.Core.Path.{_≡_, refl, sym, _∙_}
-use mathlib.Core.Logic.{_⊎_, inl, inr}
-use mathlib.Core.List.{[], _∷_}
-use native.Mathlib.Omega.{arith}
-use types.Run.{OneOf}
-use denote.Enum.Declared.{tagOf}
+use mathlib.Core.Path.{_≡_, sym, ap, _∙_}
 use borrow.Author.Needs.{needs}
-use Rattle.jxl_record.specs.Record.{overIndex, impossibleIn}
-use Rattle.jxl_record.specs.declared.JxlpIndexState.{JxlpIndexState}
-use Rattle.jxl_record.specs.declared.DetectState.{DetectState}
-use Rattle.jxl_record.specs.declared.DetectState.the-variants as S
-use Rattle.jxl_record.proofs.Above.{above-none}
-use Rattle.jxl_record.proofs.DetectState as States
 use Rattle.jxl_record.proofs.ContainerParser.is_impossible.Statement.{statement}
 use Rattle.jxl_record.proofs.ContainerParser.is_impossible.Tie as tie
-
--- a state that awaits no 4 bytes, and is not refused
-by-row : (s : DetectState) (j : JxlpIndexState) → OneOf (0 ∷ 1 ∷ 4 ∷ 5 ∷ []) (tagOf States.the-type s) → overIndex j ≡ impossibleIn s j
-by-row S.WaitingSignature j o = refl
-by-row S.WaitingBoxHeader j o = refl
-by-row (S.WaitingJxlpIndex l) j o = elim o [ inl x ↦ absurd (omega (arith, x)) | inr (inl x) ↦ absurd (omega (arith, x)) | inr (inr (inl x)) ↦ absurd (omega (arith, x)) | inr (inr (inr x)) ↦ absurd (omega (arith, x)) ]
-by-row (S.WaitingInnerType l) j o = elim o [ inl x ↦ absurd (omega (arith, x)) | inr (inl x) ↦ absurd (omega (arith, x)) | inr (inr (inl x)) ↦ absurd (omega (arith, x)) | inr (inr (inr x)) ↦ absurd (omega (arith, x)) ]
-by-row (S.InAuxBox t l) j o = refl
-by-row (S.InCodestream k l pending) j o = refl
-by-row (S.Refused k r) j o = elim o [ inl x ↦ absurd (omega (arith, x)) | inr (inl x) ↦ absurd (omega (arith, x)) | inr (inr (inl x)) ↦ absurd (omega (arith, x)) | inr (inr (inr x)) ↦ absurd (omega (arith, x)) ]
 
 enum-known-state : tie.Need-enum-known-state
 enum-known-state c = search needs
 
-index-above-requires : tie.Need-index-above-requires
-index-above-requires c κs = search needs
+no-index-requires : tie.Need-no-index-requires
+no-index-requires c κs = search needs
 
 under-requires : tie.Need-under-requires
 under-requires c κs = search needs
@@ -45,17 +24,36 @@ under-requires-2 c κs = search needs
 enum-told : tie.Need-enum-told
 enum-told c = search needs
 
+enum-told-2 : tie.Need-enum-told-2
+enum-told-2 c = search needs
+
 over-index-requires-2 : tie.Need-over-index-requires-2
 over-index-requires-2 c κs = search needs
 
+enum-told-3 : tie.Need-enum-told-3
+enum-told-3 c = search needs
+
+over-index-requires-3 : tie.Need-over-index-requires-3
+over-index-requires-3 c κs = search needs
+
+enum-told-4 : tie.Need-enum-told-4
+enum-told-4 c = search needs
+
+over-index-requires-4 : tie.Need-over-index-requires-4
+over-index-requires-4 c κs = search needs
+
+enum-told-5 : tie.Need-enum-told-5
+enum-told-5 c = search needs
+
+over-index-requires-5 : tie.Need-over-index-requires-5
+over-index-requires-5 c κs = search needs
+
 returns : tie.Need-returns
-returns c =
-    let no-row = sym (above-none (c .before .before .before .before .before .args .self .jxlp)) ∙ sym (c .before .index-above .ensures) ∙ c .if1 .taken in
-    rw (c .before .before .before .state .given .1, no-row)
+returns c = search needs
 
 returns-2 : tie.Need-returns-2
 returns-2 c =
-    let open-row = sym (above-none (c .before .before .before .before .before .before .args .self .jxlp)) ∙ sym (c .before .before .index-above .ensures) ∙ c .before .if1 .left in
+    let open-row = sym (c .before .before .no-index .ensures) ∙ c .before .if1 .left in
     rw (c .before .before .before .before .state .given .1, open-row) (c .under .ensures)
 
 returns-3 : tie.Need-returns-3
@@ -70,25 +68,42 @@ returns-5 : tie.Need-returns-5
 returns-5 c = search needs
 
 returns-6 : tie.Need-returns-6
-returns-6 c =
-    c .over-index2 .ensures
-    ∙ by-row (c .before .before .args .self .state) (c .before .before .args .self .jxlp) (c .before .match .keys4)
+returns-6 c = search needs
+
+returns-7 : tie.Need-returns-7
+returns-7 c = search needs
+
+returns-8 : tie.Need-returns-8
+returns-8 c = search needs
+
+returns-9 : tie.Need-returns-9
+returns-9 c = search needs
 
 pub is-impossible-spec : {M : Type 1} → statement M
 is-impossible-spec =
     tie.close
     (tie.spec
     enum-known-state
-    index-above-requires
+    no-index-requires
     under-requires
     enum-known-state-2
     over-index-requires
     under-requires-2
     enum-told
+    enum-told-2
     over-index-requires-2
+    enum-told-3
+    over-index-requires-3
+    enum-told-4
+    over-index-requires-4
+    enum-told-5
+    over-index-requires-5
     returns
     returns-2
     returns-3
     returns-4
     returns-5
-    returns-6)
+    returns-6
+    returns-7
+    returns-8
+    returns-9)

@@ -1,14 +1,40 @@
-use mathlib.Core.Path.{_∙_}
 use borrow.Author.Needs.{needs}
-use Rattle.jxl_record.proofs.Above.{above-over}
 use Rattle.jxl_record.proofs.JxlpIndexState.over_index.Statement.{statement}
 use Rattle.jxl_record.proofs.JxlpIndexState.over_index.Tie as tie
 
-index-above-requires : tie.Need-index-above-requires
-index-above-requires c κs = search needs
+enum-known-self : tie.Need-enum-known-self
+enum-known-self c = search needs
+
+enum-told : tie.Need-enum-told
+enum-told c = search needs
+
+enum-told-2 : tie.Need-enum-told-2
+enum-told-2 c = search needs
+
+enum-told-3 : tie.Need-enum-told-3
+enum-told-3 c = search needs
 
 returns : tie.Need-returns
-returns c = c .index-above .ensures ∙ above-over (c .before .args .self)
+returns c = rw (c .before .self .given .1)
+
+returns-2 : tie.Need-returns-2
+returns-2 c = search needs
+
+returns-3 : tie.Need-returns-3
+returns-3 c = search needs
+
+returns-4 : tie.Need-returns-4
+returns-4 c = search needs
 
 pub over-index-spec : {M : Type 1} → statement M
-over-index-spec = tie.close (tie.spec index-above-requires returns)
+over-index-spec =
+    tie.close
+    (tie.spec
+    enum-known-self
+    enum-told
+    enum-told-2
+    enum-told-3
+    returns
+    returns-2
+    returns-3
+    returns-4)
