@@ -4,7 +4,7 @@ use jxl_container::BoxRefusal;
 use jxl_container::ParseEvent;
 
 // Puts the first letter of a token, behind a space unless it is the first token.
-pub fn start(out: &mut [u8], to: usize, letter: u8) -> usize {
+pub(crate) fn start(out: &mut [u8], to: usize, letter: u8) -> usize {
     if to == 0 {
         return replay_text::put_byte(out, to, letter);
     }
@@ -47,7 +47,7 @@ fn choice(out: &mut [u8], to: usize, first: bool, yes: u8, no: u8) -> usize {
 }
 
 // Puts an event of a step whose input starts at `base` of the file.
-pub fn event(out: &mut [u8], to: usize, shown: ParseEvent, base: usize) -> usize {
+pub(crate) fn event(out: &mut [u8], to: usize, shown: ParseEvent, base: usize) -> usize {
     match shown {
         ParseEvent::BitstreamKind(kind) => {
             let next = start(out, to, b'K');
@@ -76,7 +76,7 @@ pub fn event(out: &mut [u8], to: usize, shown: ParseEvent, base: usize) -> usize
 }
 
 // Puts a refusal by its number.
-pub fn refusal(out: &mut [u8], to: usize, told: BoxRefusal) -> usize {
+pub(crate) fn refusal(out: &mut [u8], to: usize, told: BoxRefusal) -> usize {
     let next = start(out, to, b'R');
     match told {
         BoxRefusal::InvalidBox => replay_text::put_byte(out, next, b'1'),
@@ -85,12 +85,12 @@ pub fn refusal(out: &mut [u8], to: usize, told: BoxRefusal) -> usize {
 }
 
 // Puts the end of a packet's feed: all bytes consumed so far.
-pub fn packet_end(out: &mut [u8], to: usize, consumed: usize) -> usize {
+pub(crate) fn packet_end(out: &mut [u8], to: usize, consumed: usize) -> usize {
     let next = start(out, to, b'|');
     replay_text::put_decimal(out, next, consumed as u64)
 }
 
 // Puts a token that no line has, where `is_kept`, a rule that the list does not spell out, is broken.
-pub fn rule(out: &mut [u8], to: usize, is_kept: bool) -> usize {
+pub(crate) fn rule(out: &mut [u8], to: usize, is_kept: bool) -> usize {
     if is_kept { to } else { start(out, to, b'!') }
 }

@@ -3,7 +3,8 @@ use mathlib.Core.Path.{_≡_, refl}
 use Prim.Native.Nat.{ℕ, _+_, _%_, _^_, _<_}
 use native.Mathlib.Nat.{zero-add, add-assoc}
 use native.Mathlib.Omega.{arith}
-use Rattle.jxl_events.specs.Event.{placeOf, endOf, shifted, moved}
+use Rattle.jxl_events.specs.Event.{endOf, shifted, moved}
+use Rattle.jxl_events.specs.Theorems.{MovedFits}
 use Rattle.jxl_events.specs.declared.ParseEvent.{ParseEvent}
 use Rattle.jxl_events.specs.declared.ParseEvent.the-variants as E
 
@@ -27,7 +28,7 @@ shifted-shifted n m (E.AuxBoxEnd t) = refl
 small : (x : ℕ) → x < 2 ^ 64 → x % 2 ^ 64 ≡ x
 small x h = omega arith
 
-pub moved-fits : (n : ℕ) (e : ParseEvent) → n + placeOf e < 2 ^ 64 → moved n e ≡ shifted n e
+pub moved-fits : MovedFits
 moved-fits n (E.BitstreamKind k) h = refl
 moved-fits n E.NoMoreAuxBox h = refl
 moved-fits n (E.Codestream a l) h = rw (small (n + a) h)

@@ -58,7 +58,7 @@ shifted n (E.AuxBoxStart t b e) = E.AuxBoxStart t b e
 shifted n (E.AuxBoxData t a l) = E.AuxBoxData t (n + a) l
 shifted n (E.AuxBoxEnd t) = E.AuxBoxEnd t
 
--- the same where places are counted modulo 2^64; the two agree where the place fits (`moved-fits`)
+-- the same where places are counted modulo 2^64; the two agree where the place fits (`MovedFits`)
 abbrev pub moved : ℕ → ParseEvent → ParseEvent
 moved n (E.BitstreamKind k) = E.BitstreamKind k
 moved n E.NoMoreAuxBox = E.NoMoreAuxBox

@@ -1,5 +1,4 @@
--- What is proved of every step beside its promise; proofs/Laws.antt, and for one answer proofs/Unique.antt, have a proof of each
--- statement under the same name in small letters.
+-- What is proved of every step beside its promise; proofs/Laws.antt has a proof of each statement under the same name in small letters.
 use mathlib.Core.Path.{_≡_}
 use mathlib.Core.List.{List}
 use Prim.Native.Nat.{ℕ, _+_, _≤_}

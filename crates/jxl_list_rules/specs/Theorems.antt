@@ -107,8 +107,8 @@ WayLeads = (p : ContainerParser) (h : MaybeEvent) (base n : ℕ) → Leads (wayO
 abbrev pub OneListing : Type 0
 OneListing = (d w : List ℕ) → OneAnswerAndBuffer (λ r b. leaves r b ≡ listOf d w)
 
-abbrev pub OneWay : Type 0
-OneWay = (p : ContainerParser) (h : MaybeEvent) (base n : ℕ) → OneAnswer (λ r. r ≡ wayOf p h base n)
+abbrev pub OneShortWay : Type 0
+OneShortWay = (p : ContainerParser) (h : MaybeEvent) (base n : ℕ) → OneAnswer (λ r. r ≡ wayOf p h base n)
 
 abbrev pub OneTurn : Type 0
 OneTurn = (buffer : List ℕ) (t : Turned) → OneAnswerAndBuffer (λ r b. Told r b buffer t)
