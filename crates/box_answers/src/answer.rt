@@ -75,12 +75,14 @@ pub(crate) fn event(out: &mut [u8], to: usize, shown: ParseEvent, base: usize) -
     }
 }
 
-// Puts a refusal by its number.
+// Puts a refusal by its number in document 01: 10 to 19 are merged into 1, since the Rust does not tell them apart.
 pub(crate) fn refusal(out: &mut [u8], to: usize, told: BoxRefusal) -> usize {
     let next = start(out, to, b'R');
-    match told {
-        BoxRefusal::InvalidBox => replay_text::put_byte(out, next, b'1'),
-        BoxRefusal::ValidationFailed => replay_text::put_byte(out, next, b'2'),
+    let number = told.number();
+    if number < 10 {
+        replay_text::put_decimal(out, next, number as u64)
+    } else {
+        replay_text::put_byte(out, next, b'1')
     }
 }
 

@@ -24,7 +24,6 @@ pub use jxl_events::ParseEvent;
 pub use jxl_events::Placed;
 pub use jxl_events::payload;
 pub use jxl_events::with_place;
-pub use jxl_headers::BoxRefusal;
 pub use jxl_headers::BytesLeft;
 pub use jxl_joiner::Added;
 pub use jxl_joiner::Joiner;
@@ -35,6 +34,7 @@ pub use jxl_record::BitstreamKind;
 pub use jxl_record::ContainerParser;
 pub use jxl_record::DetectState;
 pub use jxl_record::JxlpIndexState;
+pub use jxl_refusals::BoxRefusal;
 
 // The same reach, made anew field by field: a copy takes the unused bytes along, which costs more than the step itself.
 fn anew(left: BytesLeft) -> BytesLeft
@@ -129,11 +129,11 @@ fn kind_step(kind: BitstreamKind, jxlp: JxlpIndexState) -> StepResult
 }
 
 // A refusal of the box whose header ends at `at`.
-fn refuse_box(jxlp: JxlpIndexState, at: usize) -> StepResult
-    ensures { λ r. ⌜ told r ≡ Spec.ahead at (Spec.refuseBox jxlp) ⌝ }
+fn refuse_box(refusal: BoxRefusal, jxlp: JxlpIndexState, at: usize) -> StepResult
+    ensures { λ r. ⌜ told r ≡ Spec.ahead at (Spec.refuseBox refusal jxlp) ⌝ }
 {
     refuse(
-        BoxRefusal::InvalidBox,
+        refusal,
         ContainerParser::at(DetectState::WaitingBoxHeader, jxlp),
         at,
     )
@@ -152,9 +152,15 @@ fn jxlc_step(jxlp: JxlpIndexState, left: BytesLeft, s: &[u8], at: usize) -> Step
             s,
             at,
         ),
-        JxlpIndexState::SingleJxlc => refuse_box(JxlpIndexState::SingleJxlc, at),
-        JxlpIndexState::Jxlp(i) => refuse_box(JxlpIndexState::Jxlp(i), at),
-        JxlpIndexState::JxlpFinished => refuse_box(JxlpIndexState::JxlpFinished, at),
+        JxlpIndexState::SingleJxlc => {
+            refuse_box(BoxRefusal::SecondJxlc, JxlpIndexState::SingleJxlc, at)
+        },
+        JxlpIndexState::Jxlp(i) => {
+            refuse_box(BoxRefusal::JxlcAfterJxlp, JxlpIndexState::Jxlp(i), at)
+        },
+        JxlpIndexState::JxlpFinished => {
+            refuse_box(BoxRefusal::JxlcAfterJxlp, JxlpIndexState::JxlpFinished, at)
+        },
     }
 }
 
@@ -165,9 +171,13 @@ fn jxlp_next(jxlp: JxlpIndexState, left: BytesLeft, s: &[u8], at: usize) -> Step
 {
     match jxlp {
         JxlpIndexState::Initial => index_step(0, left, s, at),
-        JxlpIndexState::SingleJxlc => refuse_box(JxlpIndexState::SingleJxlc, at),
+        JxlpIndexState::SingleJxlc => {
+            refuse_box(BoxRefusal::JxlpAfterJxlc, JxlpIndexState::SingleJxlc, at)
+        },
         JxlpIndexState::Jxlp(i) => index_step(i + 1, left, s, at),
-        JxlpIndexState::JxlpFinished => refuse_box(JxlpIndexState::JxlpFinished, at),
+        JxlpIndexState::JxlpFinished => {
+            refuse_box(BoxRefusal::JxlpAfterLast, JxlpIndexState::JxlpFinished, at)
+        },
     }
 }
 
@@ -177,7 +187,7 @@ fn jxlp_step(jxlp: JxlpIndexState, left: BytesLeft, s: &[u8], at: usize) -> Step
     ensures { λ r. ⌜ told r ≡ Spec.ahead at (Spec.jxlpStep jxlp left (drop at (now (s .entry)))) ⌝ }
 {
     if left.under(4) {
-        return refuse_box(jxlp, at);
+        return refuse_box(BoxRefusal::JxlpTooSmall, jxlp, at);
     }
     jxlp_next(jxlp, left, s, at)
 }
@@ -187,7 +197,7 @@ fn brob_step(jxlp: JxlpIndexState, left: BytesLeft, s: &[u8], at: usize) -> Step
     ensures { λ r. ⌜ told r ≡ Spec.ahead at (Spec.brobStep jxlp left (drop at (now (s .entry)))) ⌝ }
 {
     if left.under(4) {
-        return refuse_box(jxlp, at);
+        return refuse_box(BoxRefusal::BrobTooSmall, jxlp, at);
     }
     inner_step(jxlp, left, s, at)
 }
@@ -341,7 +351,7 @@ pub fn step(parser: ContainerParser, input: &[u8]) -> StepResult
         return empty_step(p);
     }
     if p.is_impossible() {
-        return refuse(BoxRefusal::InvalidBox, p, 0);
+        return refuse(BoxRefusal::ImpossibleRecord, p, 0);
     }
     state_step(p, input)
 }

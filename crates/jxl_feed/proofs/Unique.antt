@@ -2,9 +2,7 @@
 use mathlib.Core.Path.{_≡_, sym, _∙_}
 use Rattle.jxl_base.proofs.OneAnswer.{one-named}
 use Rattle.jxl_headers.specs.Bytes.{starts}
-use Rattle.jxl_headers.specs.Refusals.{why}
 use Rattle.jxl_headers.specs.Signature.{containerSig}
-use Rattle.jxl_headers.proofs.Header.{why-one}
 use Rattle.jxl_record.specs.Record.{kindOf}
 use Rattle.jxl_record.specs.declared.ContainerParser.{ContainerParser}
 use Rattle.jxl_feed.specs.Fed.{kindOfFile, toldFed}
@@ -21,10 +19,7 @@ told-one (A.Want n) (A.Want m) q r h = (cc, cc)
 told-one (A.Want n) (A.Refused u m) q r h = (cc, cc)
 told-one (A.Refused w n) (A.Shown f m) q r h = (cc, cc)
 told-one (A.Refused w n) (A.Want m) q r h = (cc, cc)
-told-one (A.Refused w n) (A.Refused u m) q r h =
-    let same : why w ≡ why u = cc in
-    let name : w ≡ u = why-one w u same in
-    (cc, cc)
+told-one (A.Refused w n) (A.Refused u m) q r h = (cc, cc)
 
 pub one-feed-bytes : OneFeedBytes
 one-feed-bytes p s x y q r a b = told-one x y q r (a ∙ sym b)

@@ -1,7 +1,6 @@
 -- What a lent parser answers, with the parser that is left there: the step of jxl_grammar. The kind of a file, by its signature.
 use mathlib.Core.List.{List}
 use Prim.Native.Nat.{ℕ}
-use Rattle.jxl_headers.specs.Refusals.{why}
 use Rattle.jxl_headers.specs.Signature.{signatureOf}
 use Rattle.jxl_headers.specs.declared.consts.Signature.{Signature}
 use Rattle.jxl_headers.specs.declared.consts.Signature.the-variants as G
@@ -15,7 +14,7 @@ use Rattle.jxl_feed.specs.declared.Fed.the-variants as A
 abbrev pub toldFed : Fed → ContainerParser → Told
 toldFed (A.Shown e n) p = shows e p n
 toldFed (A.Want n) p = wants p n
-toldFed (A.Refused r n) p = refuses (why r) p n
+toldFed (A.Refused r n) p = refuses r p n
 
 -- the kind that a signature tells: none yet where the bytes are too few
 abbrev pub kindBy : Signature → BitstreamKind

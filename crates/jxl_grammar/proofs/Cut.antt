@@ -192,7 +192,7 @@ module _ (i : ℕ) (l : BytesLeft) (h : i ≤ 0x80000000) (u : under 4 l ≡ fal
       let word : be32 (a ++ b) 0 ≡ be32 a 0 = be32-more a b 0 (omega arith) in
       let other = eqb-false (be32 a 0 % 0x80000000) i e in
       let long : 4 ≤ length (a ++ b) = omega (arith, length-append a b) in
-      rw (index-wrong i l a f other, index-wrong i l (a ++ b) long (λ q. other (sym (ap (λ (w : ℕ). w % 0x80000000) word) ∙ q))) (final refl)
+      rw (index-wrong i l a f other, index-wrong i l (a ++ b) long (λ q. other (sym (ap (λ (w : ℕ). w % 0x80000000) word) ∙ q)), word) (final refl)
 
   cut-index : (a b : List ℕ) → Cut a b (indexStep i l (a ++ b)) (indexStep i l a)
   cut-index a b = go (ltb (length a) 4) refl

@@ -9,7 +9,8 @@ use lib.Dec.{ltb, leb, eqb}
 use lib.ListN.{length, drop}
 use borrow.Author.Tests.{ltb-true, ltb-false, eqb-true, eqb-false}
 use Rattle.jxl_headers.specs.Bytes.{if, be32}
-use Rattle.jxl_headers.specs.Refusals.{Why}
+use Rattle.jxl_refusals.specs.declared.BoxRefusal.{BoxRefusal}
+use Rattle.jxl_refusals.specs.declared.BoxRefusal.the-variants.{JxlpTooSmall, BrobTooSmall}
 use Rattle.jxl_reach.specs.Reach.{under, less, toEnd}
 use Rattle.jxl_record.specs.Record.{at, kindIn, kindOf, fresh, impossible, isRefused}
 use Rattle.jxl_headers.specs.Header.{Header, short, bad, box, headerOf}
@@ -136,17 +137,17 @@ stays-next (Jxlp i) l s = stays-index (i + 1) l s
 stays-next JxlpFinished l s = refl
 
 -- a rule, or the refusal of a payload under 4
-stays-sized : (u : Bool) (j : JxlpIndexState) (t : Told) → Stays K.Container t → Stays K.Container (if u (refuseBox j) t)
-stays-sized true j t i = refl
-stays-sized false j t i = i
+stays-sized : (u : Bool) (r : BoxRefusal) (j : JxlpIndexState) (t : Told) → Stays K.Container t → Stays K.Container (if u (refuseBox r j) t)
+stays-sized true r j t i = refl
+stays-sized false r j t i = i
 
 stays-box : (j : JxlpIndexState) (t : ℕ) (l : BytesLeft) (s : List ℕ) → Stays K.Container (boxStep j t l s)
 stays-box j t l s = go (eqb t jxlc) refl (eqb t jxlp) refl (eqb t brob) refl
   where
     go : (u : Bool) → eqb t jxlc ≡ u → (v : Bool) → eqb t jxlp ≡ v → (w : Bool) → eqb t brob ≡ w → Stays K.Container (boxStep j t l s)
     go true e v f w g = rw (box-jxlc j t l s (eqb-true t jxlc e)) (stays-jxlc j l s)
-    go false e true f w g = rw (box-jxlp j t l s (eqb-true t jxlp f)) (stays-sized (under 4 l) j (jxlpNext j l s) (stays-next j l s))
-    go false e false f true g = rw (box-brob j t l s (eqb-true t brob g)) (stays-sized (under 4 l) j (innerStep j l s) (stays-inner j l s))
+    go false e true f w g = rw (box-jxlp j t l s (eqb-true t jxlp f)) (stays-sized (under 4 l) JxlpTooSmall j (jxlpNext j l s) (stays-next j l s))
+    go false e false f true g = rw (box-brob j t l s (eqb-true t brob g)) (stays-sized (under 4 l) BrobTooSmall j (innerStep j l s) (stays-inner j l s))
     go false e false f false g = rw (box-aux j t l s (eqb-false t jxlc e) (eqb-false t jxlp f) (eqb-false t brob g)) refl
 
 stays-header : (j : JxlpIndexState) (s : List ℕ) (h : Header) → Stays K.Container (headerStep j s h)
@@ -290,7 +291,7 @@ calm-signature j G.TooShort = tt
 calm-signature j G.Neither = tt
 
 -- a state that is not calm has a kind that stays
-refusal-in : (d : DetectState) (j : JxlpIndexState) (s : List ℕ) {w : Why} {q : ContainerParser} {c : ℕ} → stateStep d j s ≡ refuses w q c → kindOf q ≡ kindIn d
+refusal-in : (d : DetectState) (j : JxlpIndexState) (s : List ℕ) {w : BoxRefusal} {q : ContainerParser} {c : ℕ} → stateStep d j s ≡ refuses w q c → kindOf q ≡ kindIn d
 refusal-in S.WaitingSignature j s e = absurd (rw e at (calm-signature j (signatureOf s)))
 refusal-in S.WaitingBoxHeader j s {q = q} e = kind-is (q .state) (rw e at (stays-state K.Container S.WaitingBoxHeader j s refl))
 refusal-in (S.WaitingJxlpIndex l) j s {q = q} e = kind-is (q .state) (rw e at (stays-state K.Container (S.WaitingJxlpIndex l) j s refl))

@@ -6,7 +6,7 @@ use mathlib.Core.List.{List}
 use Prim.Native.Nat.{ℕ, _≤_}
 use native.Mathlib.Omega.{arith}
 use lib.ListN.{length}
-use Rattle.jxl_headers.specs.Refusals.{Why}
+use Rattle.jxl_refusals.specs.declared.BoxRefusal.{BoxRefusal}
 use Rattle.jxl_record.specs.Record.{isRefused}
 use Rattle.jxl_grammar.specs.Step.{Told, stepOf}
 use Rattle.jxl_grammar.specs.Laws as Step
@@ -26,10 +26,10 @@ kept n (shows e p c) k = k
 kept n (wants p c) k = k
 kept n (refuses w p c) k = k
 
-empty : (p : ContainerParser) → Open parser p ⊎ ((w : Why) × Repeats parser w p)
+empty : (p : ContainerParser) → Open parser p ⊎ ((w : BoxRefusal) × Repeats parser w p)
 empty p = go (isRefused p) refl
   where
-    go : (t : Bool) → isRefused p ≡ t → Open parser p ⊎ ((w : Why) × Repeats parser w p)
+    go : (t : Bool) → isRefused p ≡ t → Open parser p ⊎ ((w : BoxRefusal) × Repeats parser w p)
     go true r = inr (stays p r)
     go false r = inl (step-empty p r)
 

@@ -9,7 +9,6 @@ use lib.ListN.{length, drop, length-drop}
 use borrow.Author.Tests.{ltb-true, ltb-false, leb-true, leb-false, eqb-true, eqb-false}
 use Rattle.jxl_headers.specs.Bytes.{if, be32}
 use Rattle.jxl_headers.specs.Signature.{signatureOf}
-use Rattle.jxl_headers.specs.Refusals.{Why, why}
 use Rattle.jxl_reach.specs.Reach.{under, less, toEnd}
 use Rattle.jxl_record.specs.Record.{at, refusedIn, isRefused, impossible}
 use Rattle.jxl_headers.specs.Types.{jxlc, jxlp, brob, reserved}
@@ -31,8 +30,8 @@ use Rattle.jxl_record.specs.declared.JxlpIndexState.the-variants.{Initial, Sing
 use Rattle.jxl_record.specs.declared.DetectState.{DetectState}
 use Rattle.jxl_record.specs.declared.DetectState.the-variants as S
 use Rattle.jxl_record.specs.declared.ContainerParser.{ContainerParser}
-use Rattle.jxl_headers.specs.declared.BoxRefusal.{BoxRefusal}
-use Rattle.jxl_headers.specs.declared.BoxRefusal.the-variants.{InvalidBox, ValidationFailed}
+use Rattle.jxl_refusals.specs.declared.BoxRefusal.{BoxRefusal}
+use Rattle.jxl_refusals.specs.declared.BoxRefusal.the-variants.{SecondJxlc, JxlcAfterJxlp, JxlpTooSmall, JxlpAfterJxlc, JxlpAfterLast, WrongIndex, BrobTooSmall, ImpossibleRecord, ValidationFailed}
 use Rattle.jxl_events.specs.declared.ParseEvent.{ParseEvent}
 use Rattle.jxl_events.specs.declared.ParseEvent.the-variants as E
 
@@ -40,16 +39,16 @@ pub refused-stays : RefusedStays
 refused-stays k r j [] = step-empty-refused (at (S.Refused k r) j) refl
 refused-stays k r j (x ∷ s) = step-state (at (S.Refused k r) j) (x ∷ s) (omega arith) refl
 
-stays-in : (d : DetectState) (j : JxlpIndexState) → refusedIn d ≡ true → (w : Why) × Repeats w (at d j)
+stays-in : (d : DetectState) (j : JxlpIndexState) → refusedIn d ≡ true → (w : BoxRefusal) × Repeats w (at d j)
 stays-in S.WaitingSignature j e = absurd (let z : _≡_ {A = ℕ} 0 1 = cc in omega arith)
 stays-in S.WaitingBoxHeader j e = absurd (let z : _≡_ {A = ℕ} 0 1 = cc in omega arith)
 stays-in (S.WaitingJxlpIndex l) j e = absurd (let z : _≡_ {A = ℕ} 0 1 = cc in omega arith)
 stays-in (S.WaitingInnerType l) j e = absurd (let z : _≡_ {A = ℕ} 0 1 = cc in omega arith)
 stays-in (S.InAuxBox t l) j e = absurd (let z : _≡_ {A = ℕ} 0 1 = cc in omega arith)
 stays-in (S.InCodestream k l pending) j e = absurd (let z : _≡_ {A = ℕ} 0 1 = cc in omega arith)
-stays-in (S.Refused k r) j e = (why r, refused-stays k r j)
+stays-in (S.Refused k r) j e = (r, refused-stays k r j)
 
-pub stays : (p : ContainerParser) → isRefused p ≡ true → (w : Why) × Repeats w p
+pub stays : (p : ContainerParser) → isRefused p ≡ true → (w : BoxRefusal) × Repeats w p
 stays p e = stays-in (p .state) (p .jxlp) e
 
 inside-ahead : (k n : ℕ) (e : ParseEvent) → k ≤ n → Inside e (n - k) → Inside (shifted k e) n
@@ -101,7 +100,7 @@ kept-index i l s = go (ltb (length s) 4) refl (eqb (be32 s 0 % 0x80000000) i) re
         (kept-ahead 4 s (codeStep (row (be32 s 0) i) K.Container (less l 4) (toEnd l) (drop 4 s)) h (kept-code (row (be32 s 0) i) K.Container (less l 4) (toEnd l) (drop 4 s)))
     go false e false f =
         let h = ltb-false (length s) 4 e in
-        rw (index-wrong i l s h (eqb-false (be32 s 0 % 0x80000000) i f)) (kept-refuse InvalidBox (at (S.WaitingJxlpIndex l) (Jxlp i)) 4 (length s) h)
+        rw (index-wrong i l s h (eqb-false (be32 s 0 % 0x80000000) i f)) (kept-refuse (WrongIndex i (be32 s 0 % 0x80000000)) (at (S.WaitingJxlpIndex l) (Jxlp i)) 4 (length s) h)
 
 kept-inner : (j : JxlpIndexState) (l : BytesLeft) (s : List ℕ) → Kept (length s) (innerStep j l s)
 kept-inner j l s = go (ltb (length s) 4) refl (reserved (be32 s 0)) refl
@@ -118,23 +117,23 @@ kept-none r p s = kept-refuse r p 0 (length s) (omega arith)
 
 kept-jxlc : (j : JxlpIndexState) (l : BytesLeft) (s : List ℕ) → Kept (length s) (jxlcStep j l s)
 kept-jxlc Initial l s = kept-code SingleJxlc K.Container l (toEnd l) s
-kept-jxlc SingleJxlc l s = kept-none InvalidBox (at S.WaitingBoxHeader SingleJxlc) s
-kept-jxlc (Jxlp i) l s = kept-none InvalidBox (at S.WaitingBoxHeader (Jxlp i)) s
-kept-jxlc JxlpFinished l s = kept-none InvalidBox (at S.WaitingBoxHeader JxlpFinished) s
+kept-jxlc SingleJxlc l s = kept-none SecondJxlc (at S.WaitingBoxHeader SingleJxlc) s
+kept-jxlc (Jxlp i) l s = kept-none JxlcAfterJxlp (at S.WaitingBoxHeader (Jxlp i)) s
+kept-jxlc JxlpFinished l s = kept-none JxlcAfterJxlp (at S.WaitingBoxHeader JxlpFinished) s
 
 kept-next : (j : JxlpIndexState) (l : BytesLeft) (s : List ℕ) → Kept (length s) (jxlpNext j l s)
 kept-next Initial l s = kept-index 0 l s
-kept-next SingleJxlc l s = kept-none InvalidBox (at S.WaitingBoxHeader SingleJxlc) s
+kept-next SingleJxlc l s = kept-none JxlpAfterJxlc (at S.WaitingBoxHeader SingleJxlc) s
 kept-next (Jxlp i) l s = kept-index (i + 1) l s
-kept-next JxlpFinished l s = kept-none InvalidBox (at S.WaitingBoxHeader JxlpFinished) s
+kept-next JxlpFinished l s = kept-none JxlpAfterLast (at S.WaitingBoxHeader JxlpFinished) s
 
 -- a rule, or the refusal of a payload under 4
-kept-sized : (j : JxlpIndexState) (l : BytesLeft) (s : List ℕ) (t : Told) → Kept (length s) t
-    → Kept (length s) (if (under 4 l) (refuse InvalidBox (at S.WaitingBoxHeader j) 0) t)
-kept-sized j l s t i = go (under 4 l)
+kept-sized : (r : BoxRefusal) (j : JxlpIndexState) (l : BytesLeft) (s : List ℕ) (t : Told) → Kept (length s) t
+    → Kept (length s) (if (under 4 l) (refuse r (at S.WaitingBoxHeader j) 0) t)
+kept-sized r j l s t i = go (under 4 l)
   where
-    go : (u : Bool) → Kept (length s) (if u (refuse InvalidBox (at S.WaitingBoxHeader j) 0) t)
-    go true = kept-none InvalidBox (at S.WaitingBoxHeader j) s
+    go : (u : Bool) → Kept (length s) (if u (refuse r (at S.WaitingBoxHeader j) 0) t)
+    go true = kept-none r (at S.WaitingBoxHeader j) s
     go false = i
 
 kept-box : (j : JxlpIndexState) (t : ℕ) (l : BytesLeft) (s : List ℕ) → Kept (length s) (boxStep j t l s)
@@ -142,8 +141,8 @@ kept-box j t l s = go (eqb t jxlc) refl (eqb t jxlp) refl (eqb t brob) refl
   where
     go : (u : Bool) → eqb t jxlc ≡ u → (v : Bool) → eqb t jxlp ≡ v → (w : Bool) → eqb t brob ≡ w → Kept (length s) (boxStep j t l s)
     go true e v f w g = rw (box-jxlc j t l s (eqb-true t jxlc e)) (kept-jxlc j l s)
-    go false e true f w g = rw (box-jxlp j t l s (eqb-true t jxlp f)) (kept-sized j l s (jxlpNext j l s) (kept-next j l s))
-    go false e false f true g = rw (box-brob j t l s (eqb-true t brob g)) (kept-sized j l s (innerStep j l s) (kept-inner j l s))
+    go false e true f w g = rw (box-jxlp j t l s (eqb-true t jxlp f)) (kept-sized JxlpTooSmall j l s (jxlpNext j l s) (kept-next j l s))
+    go false e false f true g = rw (box-brob j t l s (eqb-true t brob g)) (kept-sized BrobTooSmall j l s (innerStep j l s) (kept-inner j l s))
     go false e false f false g = rw (box-aux j t l s (eqb-false t jxlc e) (eqb-false t jxlp f) (eqb-false t brob g)) (omega arith, tt)
 
 kept-header : (j : JxlpIndexState) (s : List ℕ) (h : Header) → headerOf s ≡ h → Kept (length s) (headerStep j s h)
@@ -172,5 +171,5 @@ every-step p s = go s (isRefused p) refl (impossible p) refl
     go : (s : List ℕ) (t : Bool) → isRefused p ≡ t → (u : Bool) → impossible p ≡ u → Kept (length s) (stepOf p s)
     go [] true r u i = rw (step-empty-refused p r) (kept-state (p .state) (p .jxlp) [])
     go [] false r u i = rw (step-empty p r) (omega arith, omega arith)
-    go (x ∷ s) t r true i = rw (step-impossible p (x ∷ s) (omega arith) i) (kept-none InvalidBox p (x ∷ s))
+    go (x ∷ s) t r true i = rw (step-impossible p (x ∷ s) (omega arith) i) (kept-none ImpossibleRecord p (x ∷ s))
     go (x ∷ s) t r false i = rw (step-state p (x ∷ s) (omega arith) i) (kept-state (p .state) (p .jxlp) (x ∷ s))

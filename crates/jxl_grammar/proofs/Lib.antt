@@ -8,6 +8,7 @@ pub mod Lawful
 pub mod Taking
 pub mod Listed
 pub mod Theorems
+pub mod Naming
 pub mod Caught
 pub mod Payloads
 pub mod Joining

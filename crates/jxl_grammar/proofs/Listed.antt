@@ -10,7 +10,6 @@ use lib.ListN.{length, drop, length-drop}
 use lib.Seq.{drop-drop, drop-length}
 use borrow.Author.Tests.{ne-eqb, ltb-true, ltb-false, leb-true, leb-false, eqb-true, eqb-false}
 use Rattle.jxl_headers.specs.Bytes.{if, be32}
-use Rattle.jxl_headers.specs.Refusals.{why}
 use Rattle.jxl_reach.specs.Reach.{under, less, toEnd}
 use Rattle.jxl_record.specs.Record.{at, overIndex, impossibleIn, impossible, refusedIn, isRefused}
 use Rattle.jxl_headers.specs.Header.{Header, short, bad, box, headerOf}
@@ -57,7 +56,7 @@ restIn turns (S.WaitingJxlpIndex l) j at s = indexed (awaited j) l at s (boxes t
 restIn turns (S.WaitingInnerType l) j at s = inner l at s (boxes turns (sofar j))
 restIn turns (S.InAuxBox t l) j at s = aux t l at s (boxes turns (sofar j))
 restIn turns (S.InCodestream k l pending) j at s = code pending l at s (boxes turns (sofar j))
-restIn turns (S.Refused k r) j at s = ends (refused (why r)) at
+restIn turns (S.Refused k r) j at s = ends (refused r) at
 
 -- the listing of all the bytes that are still to come
 abbrev pub rest : ℕ → ContainerParser → ℕ → List ℕ → Listing

@@ -10,7 +10,7 @@ use lib.Dec.{ltb, leb, eqb}
 use lib.ListN.{length, drop, length-drop, drop-of-length-le}
 use borrow.Author.Tests.{ltb-true, ltb-false, leb-true, leb-false, eqb-true, eqb-false, ne-eqb}
 use Rattle.jxl_headers.specs.Bytes.{if, be32}
-use Rattle.jxl_headers.specs.Refusals.{Why}
+use Rattle.jxl_refusals.specs.declared.BoxRefusal.{BoxRefusal}
 use Rattle.jxl_reach.specs.Reach.{under, less, toEnd}
 use Rattle.jxl_record.specs.Record.{at, impossible, isRefused}
 use Rattle.jxl_headers.specs.Header.{Header, short, bad, box, headerOf}
@@ -180,7 +180,7 @@ sound-next (Jxlp i) l s = sound-more 2 8 (length s) (indexStep (i + 1) l s) (ome
 sound-next JxlpFinished l s = (tt, tt)
 
 -- a rule, or a refusal
-sound-if : (w n : ℕ) (u : Bool) (r : Why) (p : ContainerParser) (c : ℕ) (t : Told) → Sound w n t → Sound w n (if u (refuses r p c) t)
+sound-if : (w n : ℕ) (u : Bool) (r : BoxRefusal) (p : ContainerParser) (c : ℕ) (t : Told) → Sound w n t → Sound w n (if u (refuses r p c) t)
 sound-if w n true r p c t i = (tt, tt)
 sound-if w n false r p c t i = i
 

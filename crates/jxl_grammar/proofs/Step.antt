@@ -25,7 +25,7 @@ use Rattle.jxl_record.specs.declared.JxlpIndexState.the-variants.{Jxlp}
 use Rattle.jxl_record.specs.declared.DetectState.{DetectState}
 use Rattle.jxl_record.specs.declared.DetectState.the-variants as S
 use Rattle.jxl_record.specs.declared.ContainerParser.{ContainerParser}
-use Rattle.jxl_headers.specs.declared.BoxRefusal.the-variants.{InvalidBox, ValidationFailed}
+use Rattle.jxl_refusals.specs.declared.BoxRefusal.the-variants.{WrongIndex, ImpossibleRecord, ValidationFailed}
 use Rattle.jxl_events.specs.declared.ParseEvent.the-variants as E
 
 pub ahead-zero : (t : Told) → ahead 0 t ≡ t
@@ -71,7 +71,7 @@ module _ (i : ℕ) (l : BytesLeft) (s : List ℕ) where
   unfolding indexStep
   index-right h e = rw (le-ltb (length s) 4 h, eq-eqb (be32 s 0 % 0x80000000) i e)
 
-  pub index-wrong : 4 ≤ length s → (be32 s 0 % 0x80000000 ≡ i → ⊥) → indexStep i l s ≡ refuse InvalidBox (at (S.WaitingJxlpIndex l) (Jxlp i)) 4
+  pub index-wrong : 4 ≤ length s → (be32 s 0 % 0x80000000 ≡ i → ⊥) → indexStep i l s ≡ refuse (WrongIndex i (be32 s 0 % 0x80000000)) (at (S.WaitingJxlpIndex l) (Jxlp i)) 4
   unfolding indexStep
   index-wrong h n = rw (le-ltb (length s) 4 h, ne-eqb (be32 s 0 % 0x80000000) i n)
 
@@ -116,9 +116,9 @@ module _ (s : List ℕ) (n : ℕ) where
       (ahead-ahead n 4 (codeStep (row (be32 s n) i) K.Container (less l 4) (toEnd l) (drop (n + 4) s)))
 
   pub far-index-wrong : (i : ℕ) (l : BytesLeft) → 4 ≤ length s - n → (be32 s n % 0x80000000 ≡ i → ⊥)
-      → ahead n (indexStep i l (drop n s)) ≡ refuse InvalidBox (at (S.WaitingJxlpIndex l) (Jxlp i)) (n + 4)
+      → ahead n (indexStep i l (drop n s)) ≡ refuse (WrongIndex i (be32 s n % 0x80000000)) (at (S.WaitingJxlpIndex l) (Jxlp i)) (n + 4)
   far-index-wrong i l h d =
-      rw (index-wrong i l (drop n s) (omega (arith, rest-is)) (λ e. d (sym (ap (λ (w : ℕ). w % 0x80000000) (be32-drop s n)) ∙ e)))
+      rw (index-wrong i l (drop n s) (omega (arith, rest-is)) (λ e. d (sym (ap (λ (w : ℕ). w % 0x80000000) (be32-drop s n)) ∙ e)), be32-drop s n)
 
   pub far-inner-wants : (j : JxlpIndexState) (l : BytesLeft) → length s - n < 4 → ahead n (innerStep j l (drop n s)) ≡ wants (at (S.WaitingInnerType l) j) n
   far-inner-wants j l h = rw (inner-wants j l (drop n s) (omega (arith, rest-is)), add-zero n)
@@ -173,7 +173,7 @@ module _ (p : ContainerParser) where
   unfolding stepOf
   step-empty-refused e = rw (e, refused-possible p e)
 
-  pub step-impossible : (s : List ℕ) → 0 < length s → impossible p ≡ true → stepOf p s ≡ refuse InvalidBox p 0
+  pub step-impossible : (s : List ℕ) → 0 < length s → impossible p ≡ true → stepOf p s ≡ refuse ImpossibleRecord p 0
   unfolding stepOf
   step-impossible s h e = rw (empty-no s h, e)
 

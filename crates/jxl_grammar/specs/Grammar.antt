@@ -1,6 +1,6 @@
 -- What a whole file lists: document 01, "Boxes", as a grammar of bytes. It knows nothing of steps, packets or a parser's state;
--- with a step it shares the signature, the header, the box types, the reach of a payload and the refusals in the paper's words, all of
--- jxl_headers (`signatureOf`, `headerOf`, `Types`, `why`) and jxl_reach (`Reach`).
+-- with a step it shares the signature, the header and the box types of jxl_headers (`signatureOf`, `headerOf`, `Types`), the reach of a
+-- payload (jxl_reach) and the names of the rules that can break (jxl_refusals).
 -- Each definition is one thing in a file that stands at `at`, with the bytes `s` from there to the end; `more` lists what follows it.
 -- A choice is an `elim`, which computes one branch alone; an `if` would compute both, and with them the boxes to the end twice.
 use mathlib.Core.Bool.{Bool, true, false}
@@ -12,7 +12,6 @@ use Rattle.jxl_cuts.specs.Feeding.{Stop as Stops}
 pub use Rattle.jxl_cuts.specs.Feeding.{want, refused}
 use Rattle.jxl_headers.specs.Bytes.{be32}
 use Rattle.jxl_headers.specs.Signature.{signatureOf}
-use Rattle.jxl_headers.specs.Refusals.{Why, refusal, why}
 use Rattle.jxl_reach.specs.Reach.{under, less, toEnd}
 use Rattle.jxl_headers.specs.Types.{jxlc, jxlp, brob, reserved}
 use Rattle.jxl_headers.specs.Header.{Header, short, bad, box, headerOf}
@@ -22,18 +21,23 @@ use Rattle.jxl_record.specs.declared.BitstreamKind.{BitstreamKind}
 use Rattle.jxl_record.specs.declared.BitstreamKind.the-variants as K
 use Rattle.jxl_reach.specs.declared.BytesLeft.{BytesLeft}
 use Rattle.jxl_reach.specs.declared.BytesLeft.the-variants.{ToEnd, Bytes}
+use Rattle.jxl_refusals.specs.declared.BoxRefusal.{BoxRefusal}
+use Rattle.jxl_refusals.specs.declared.BoxRefusal.the-variants.{SecondJxlc, JxlcAfterJxlp, JxlpTooSmall, JxlpAfterJxlc, JxlpAfterLast, WrongIndex, BrobTooSmall, ValidationFailed}
 use Rattle.jxl_events.specs.declared.ParseEvent.{ParseEvent}
 use Rattle.jxl_events.specs.declared.ParseEvent.the-variants as E
 
--- how a listing stops: more bytes are wanted, or a refusal by its number and what it tells
+-- how a listing stops: more bytes are wanted, or a refusal by the rule that broke
 abbrev pub Stop : Type 0
-Stop = Stops Why
+Stop = Stops BoxRefusal
 
 -- events with places in the file, the bytes consumed, and the stop
-pub record Listing : Type 0 where
+pub record ListingBy (Why : Type 0) : Type 0 where
   pub events : List ParseEvent
   pub consumed : ℕ
-  pub stop : Stop
+  pub stop : Stops Why
+
+abbrev pub Listing : Type 0
+Listing = ListingBy BoxRefusal
 
 -- nothing more: all up to `at` is consumed
 abbrev pub ends : Stop → ℕ → Listing
@@ -94,14 +98,15 @@ abbrev pub row : Bool → ℕ → Codestreams
 row true i = whole
 row false i = upTo i
 
--- a `jxlp` payload whose index must be i: 4 bytes, bit 31 marks last, the other 31 are the index; another index is refused behind them
+-- a `jxlp` payload whose index must be i: 4 bytes, bit 31 marks last, the other 31 are the index; another index is refused behind
+-- them, with the one expected and the one found
 abbrev pub indexed : ℕ → BytesLeft → ℕ → List ℕ → Boxes → Listing
 indexed i l at s next =
     elim (ltb (length s) 4) [
       | true ↦ ends want at
       | false ↦ elim (eqb (be32 s 0 % 0x80000000) i) [
         | true ↦ code (toEnd l) (less l 4) (at + 4) (drop 4 s) (next (row (leb 0x80000000 (be32 s 0)) i))
-        | false ↦ ends (refused (refusal 1 [])) (at + 4)
+        | false ↦ ends (refused (WrongIndex i (be32 s 0 % 0x80000000))) (at + 4)
       ]
     ]
 
@@ -111,7 +116,7 @@ inner l at s more =
     elim (ltb (length s) 4) [
       | true ↦ ends want at
       | false ↦ elim (reserved (be32 s 0)) [
-        | true ↦ ends (refused (refusal 2 [])) (at + 4)
+        | true ↦ ends (refused ValidationFailed) (at + 4)
         | false ↦ then (E.AuxBoxStart (be32 s 0) true (toEnd l)) (aux (be32 s 0) (less l 4) (at + 4) (drop 4 s) more)
       ]
     ]
@@ -119,26 +124,26 @@ inner l at s more =
 -- a `jxlc` box: the only codestream box of its file
 abbrev pub jxlcBox : Codestreams → BytesLeft → ℕ → List ℕ → Boxes → Listing
 jxlcBox none l at s next = code (toEnd l) l at s (next single)
-jxlcBox single l at s next = ends (refused (refusal 1 [])) at
-jxlcBox (upTo i) l at s next = ends (refused (refusal 1 [])) at
-jxlcBox whole l at s next = ends (refused (refusal 1 [])) at
+jxlcBox single l at s next = ends (refused SecondJxlc) at
+jxlcBox (upTo i) l at s next = ends (refused JxlcAfterJxlp) at
+jxlcBox whole l at s next = ends (refused JxlcAfterJxlp) at
 
 -- a `jxlp` box: not after a `jxlc` or a last `jxlp`; the index counts up from 0
 abbrev pub jxlpBox : Codestreams → BytesLeft → ℕ → List ℕ → Boxes → Listing
 jxlpBox none l at s next = indexed 0 l at s next
-jxlpBox single l at s next = ends (refused (refusal 1 [])) at
+jxlpBox single l at s next = ends (refused JxlpAfterJxlc) at
 jxlpBox (upTo i) l at s next = indexed (i + 1) l at s next
-jxlpBox whole l at s next = ends (refused (refusal 1 [])) at
+jxlpBox whole l at s next = ends (refused JxlpAfterLast) at
 
--- a box of type t, behind its header; a `jxlp` or a `brob` of a payload under 4 is refused
+-- a box of type t, behind its header; a `jxlp` or a `brob` of a payload under 4 is refused for that, also where it may not stand
 abbrev pub boxed : Codestreams → ℕ → BytesLeft → ℕ → List ℕ → Boxes → Listing
 boxed c t l at s next =
     elim (eqb t jxlc) [
       | true ↦ jxlcBox c l at s next
       | false ↦ elim (eqb t jxlp) [
-        | true ↦ elim (under 4 l) [ true ↦ ends (refused (refusal 1 [])) at | false ↦ jxlpBox c l at s next ]
+        | true ↦ elim (under 4 l) [ true ↦ ends (refused JxlpTooSmall) at | false ↦ jxlpBox c l at s next ]
         | false ↦ elim (eqb t brob) [
-          | true ↦ elim (under 4 l) [ true ↦ ends (refused (refusal 1 [])) at | false ↦ inner l at s (next c) ]
+          | true ↦ elim (under 4 l) [ true ↦ ends (refused BrobTooSmall) at | false ↦ inner l at s (next c) ]
           | false ↦ then (E.AuxBoxStart t false (toEnd l)) (aux t l at s (next c))
         ]
       ]
@@ -147,7 +152,7 @@ boxed c t l at s next =
 -- a refusal in the header consumes nothing of it
 abbrev pub headed : Header → Codestreams → ℕ → List ℕ → Boxes → Listing
 headed short c at s next = ends want at
-headed (bad r) c at s next = ends (refused (why r)) at
+headed (bad r) c at s next = ends (refused r) at
 headed (box t l n) c at s next = boxed c t l (at + n) (drop n s) next
 
 -- boxes up to the end; each takes at least 8 bytes, so as many turns as bytes are more than enough

@@ -4,25 +4,24 @@ use mathlib.Core.List.{List}
 use Prim.Native.Nat.{ℕ, _+_, _≤_}
 use lib.ListN.{length}
 use Rattle.jxl_cuts.specs.Machine.{Inside as PayloadInside}
-use Rattle.jxl_headers.specs.Refusals.{Why, why}
 use Rattle.jxl_record.specs.Record.{at}
 use Rattle.jxl_grammar.specs.Step.{Told, shows, wants, refuses, stepOf}
 use Rattle.jxl_events.specs.Event.{payload}
 use Rattle.jxl_record.specs.declared.BitstreamKind.{BitstreamKind}
 use Rattle.jxl_record.specs.declared.JxlpIndexState.{JxlpIndexState}
-use Rattle.jxl_headers.specs.declared.BoxRefusal.{BoxRefusal}
+use Rattle.jxl_refusals.specs.declared.BoxRefusal.{BoxRefusal}
 use Rattle.jxl_record.specs.declared.DetectState.the-variants as S
 use Rattle.jxl_record.specs.declared.ContainerParser.{ContainerParser}
 use Rattle.jxl_events.specs.declared.ParseEvent.{ParseEvent}
 
--- refused stays: a refused parser answers its refusal, consumes nothing and is unchanged, also on an empty input
+-- refused stays: a refused parser answers its very refusal, values too, consumes nothing and is unchanged, also on an empty input
 abbrev pub RefusedStays : Type 0
 RefusedStays =
     (k : BitstreamKind) (r : BoxRefusal) (j : JxlpIndexState) (s : List ℕ)
-    → stepOf (at (S.Refused k r) j) s ≡ refuses (why r) (at (S.Refused k r) j) 0
+    → stepOf (at (S.Refused k r) j) s ≡ refuses r (at (S.Refused k r) j) 0
 
 -- a parser that answers refusal w to every input, and stays as it is
-abbrev pub Repeats : Why → ContainerParser → Type 0
+abbrev pub Repeats : BoxRefusal → ContainerParser → Type 0
 Repeats w p = (s : List ℕ) → stepOf p s ≡ refuses w p 0
 
 -- an event whose payload, if it shows one, lies inside n bytes

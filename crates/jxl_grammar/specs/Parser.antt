@@ -1,9 +1,9 @@
 -- The container parser as a machine that is fed.
 use mathlib.Core.List.{List}
 use Prim.Native.Nat.{ℕ}
-use Rattle.jxl_headers.specs.Refusals.{Why}
 use Rattle.jxl_grammar.specs.Step.{Told, stepOf}
 use Rattle.jxl_events.specs.Event.{shifted, payload, lengthOf}
+use Rattle.jxl_refusals.specs.declared.BoxRefusal.{BoxRefusal}
 use Rattle.jxl_record.specs.declared.ContainerParser.{ContainerParser}
 use Rattle.jxl_events.specs.declared.ParseEvent.{ParseEvent}
 use Rattle.jxl_cuts.specs.Machine.{Machine}
@@ -15,7 +15,7 @@ parserBy step =
     record {
       State = ContainerParser;
       Event = ParseEvent;
-      Why = Why;
+      Why = BoxRefusal;
       step = step;
       payload = payload;
       shifted = shifted;

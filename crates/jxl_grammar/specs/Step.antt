@@ -1,4 +1,5 @@
--- One step of the parser: what it tells for every record and every input, as document 01, "Boxes", has it.
+-- One step of the parser: what it tells for every record and every input, as document 01, "Boxes", has it. A refusal is told by the
+-- rule that broke, as document 02, P2, has it; its number, and document 01's, are jxl_refusals' (`why`, `inDocument01`).
 use mathlib.Core.Bool.{Bool, true, false, not}
 use mathlib.Core.List.{List, []}
 use Prim.Native.Nat.{ℕ, _+_, _-_, _%_, _/_, min}
@@ -8,7 +9,6 @@ use Rattle.jxl_cuts.specs.Machine.{Told as Answer, aheadBy}
 pub use Rattle.jxl_cuts.specs.Machine.{shows, wants, refuses}
 use Rattle.jxl_headers.specs.Bytes.{if, and, or, be32, empty}
 use Rattle.jxl_headers.specs.Signature.{signatureOf}
-use Rattle.jxl_headers.specs.Refusals.{Why, why}
 use Rattle.jxl_reach.specs.Reach.{under, less, toEnd}
 use Rattle.jxl_record.specs.Record.{at, kindOf, impossible, isRefused}
 use Rattle.jxl_headers.specs.Header.{Header, short, bad, box, headerOf}
@@ -24,22 +24,22 @@ use Rattle.jxl_record.specs.declared.JxlpIndexState.the-variants.{Initial, Sing
 use Rattle.jxl_record.specs.declared.DetectState.{DetectState}
 use Rattle.jxl_record.specs.declared.DetectState.the-variants as S
 use Rattle.jxl_record.specs.declared.ContainerParser.{ContainerParser}
-use Rattle.jxl_headers.specs.declared.BoxRefusal.{BoxRefusal}
-use Rattle.jxl_headers.specs.declared.BoxRefusal.the-variants.{InvalidBox, ValidationFailed}
+use Rattle.jxl_refusals.specs.declared.BoxRefusal.{BoxRefusal}
+use Rattle.jxl_refusals.specs.declared.BoxRefusal.the-variants.{SecondJxlc, JxlcAfterJxlp, JxlpTooSmall, JxlpAfterJxlc, JxlpAfterLast, WrongIndex, BrobTooSmall, ImpossibleRecord, ValidationFailed}
 use Rattle.jxl_events.specs.Event.{shifted}
 use Rattle.jxl_events.specs.declared.ParseEvent.{ParseEvent}
 use Rattle.jxl_events.specs.declared.ParseEvent.the-variants as E
 
--- one step gives one event, WANT or a refusal by its number and what it tells, with the next parser and the bytes consumed
+-- one step gives one event, WANT or a refusal by the rule that broke, with the next parser and the bytes consumed
 abbrev pub Told : Type 0
-Told = Answer ContainerParser ParseEvent Why
+Told = Answer ContainerParser ParseEvent BoxRefusal
 
 -- a refusal leaves the parser refused, and its kind what it was
 abbrev pub refused : BoxRefusal → ContainerParser → ContainerParser
 refused r p = at (S.Refused (kindOf p) r) (p .jxlp)
 
 abbrev pub refuse : BoxRefusal → ContainerParser → ℕ → Told
-refuse r p n = refuses (why r) (refused r p) n
+refuse r p n = refuses r (refused r p) n
 
 -- what is told of the input behind its first n bytes, said of the whole input
 abbrev pub ahead : ℕ → Told → Told
@@ -86,14 +86,14 @@ auxPart j t (Bytes m) n =
 abbrev pub row : ℕ → ℕ → JxlpIndexState
 row word i = if (leb 0x80000000 word) JxlpFinished (Jxlp i)
 
--- a `jxlp` payload: 4 bytes (WANT below that): bit 31 marks last, the other 31 are the index. Another index than i: refusal 1,
--- the 4 bytes consumed
+-- a `jxlp` payload: 4 bytes (WANT below that): bit 31 marks last, the other 31 are the index. Another index than i is
+-- refused, the 4 bytes consumed: i was expected, the other found
 unfoldable pub indexStep : ℕ → BytesLeft → List ℕ → Told
 indexStep i l s =
     if (ltb (length s) 4) (wants (at (S.WaitingJxlpIndex l) (Jxlp i)) 0)
     (if (eqb (be32 s 0 % 0x80000000) i)
     (ahead 4 (codeStep (row (be32 s 0) i) K.Container (less l 4) (toEnd l) (drop 4 s)))
-    (refuse InvalidBox (at (S.WaitingJxlpIndex l) (Jxlp i)) 4))
+    (refuse (WrongIndex i (be32 s 0 % 0x80000000)) (at (S.WaitingJxlpIndex l) (Jxlp i)) 4))
 
 -- a `brob` payload: 4 bytes of inner type (WANT below). A reserved type: refusal 2, the 4 bytes consumed.
 -- Else AUX_START: the inner type, whether compressed, whether to the end
@@ -103,31 +103,31 @@ innerStep j l s =
     (if (reserved (be32 s 0)) (refuse ValidationFailed (at (S.WaitingInnerType l) j) 4)
     (shows (E.AuxBoxStart (be32 s 0) true (toEnd l)) (at (S.InAuxBox (be32 s 0) (less l 4)) j) 4))
 
--- refusal 1 of a box, behind its header
-abbrev pub refuseBox : JxlpIndexState → Told
-refuseBox j = refuse InvalidBox (at S.WaitingBoxHeader j) 0
+-- the refusal of a box, behind its header
+abbrev pub refuseBox : BoxRefusal → JxlpIndexState → Told
+refuseBox r j = refuse r (at S.WaitingBoxHeader j) 0
 
--- `jxlc`: refusal 1 if any `jxlc` or `jxlp` came before
+-- `jxlc`: refused if any `jxlc` or `jxlp` came before
 abbrev pub jxlcStep : JxlpIndexState → BytesLeft → List ℕ → Told
 jxlcStep Initial l s = codeStep SingleJxlc K.Container l (toEnd l) s
-jxlcStep SingleJxlc l s = refuseBox SingleJxlc
-jxlcStep (Jxlp i) l s = refuseBox (Jxlp i)
-jxlcStep JxlpFinished l s = refuseBox JxlpFinished
+jxlcStep SingleJxlc l s = refuseBox SecondJxlc SingleJxlc
+jxlcStep (Jxlp i) l s = refuseBox JxlcAfterJxlp (Jxlp i)
+jxlcStep JxlpFinished l s = refuseBox JxlcAfterJxlp JxlpFinished
 
--- `jxlp`: after a `jxlc`, or after a last `jxlp`: refusal 1. The index counts up from 0 over the `jxlp` boxes
+-- `jxlp`: refused after a `jxlc`, or after a last `jxlp`. The index counts up from 0 over the `jxlp` boxes
 abbrev pub jxlpNext : JxlpIndexState → BytesLeft → List ℕ → Told
 jxlpNext Initial l s = indexStep 0 l s
-jxlpNext SingleJxlc l s = refuseBox SingleJxlc
+jxlpNext SingleJxlc l s = refuseBox JxlpAfterJxlc SingleJxlc
 jxlpNext (Jxlp i) l s = indexStep (i + 1) l s
-jxlpNext JxlpFinished l s = refuseBox JxlpFinished
+jxlpNext JxlpFinished l s = refuseBox JxlpAfterLast JxlpFinished
 
--- `jxlp`: payload under 4: refusal 1
+-- `jxlp`: a payload under 4 is refused, wherever it stands
 abbrev pub jxlpStep : JxlpIndexState → BytesLeft → List ℕ → Told
-jxlpStep j l s = if (under 4 l) (refuseBox j) (jxlpNext j l s)
+jxlpStep j l s = if (under 4 l) (refuseBox JxlpTooSmall j) (jxlpNext j l s)
 
--- `brob`: payload 0 to 3: refusal 1
+-- `brob`: a payload of 0 to 3 is refused
 abbrev pub brobStep : JxlpIndexState → BytesLeft → List ℕ → Told
-brobStep j l s = if (under 4 l) (refuseBox j) (innerStep j l s)
+brobStep j l s = if (under 4 l) (refuseBox BrobTooSmall j) (innerStep j l s)
 
 -- a box of type t, behind its header. Any other type, `ftyp` and a second `JXL ` too: AUX_START, plain
 unfoldable pub boxStep : JxlpIndexState → ℕ → BytesLeft → List ℕ → Told
@@ -158,12 +158,12 @@ stateStep (S.WaitingJxlpIndex l) j s = indexStep (awaited j) l s
 stateStep (S.WaitingInnerType l) j s = innerStep j l s
 stateStep (S.InAuxBox t l) j s = auxPart j t l (length s)
 stateStep (S.InCodestream k l pending) j s = codeStep j k l pending s
-stateStep (S.Refused k r) j s = refuses (why r) (at (S.Refused k r) j) 0
+stateStep (S.Refused k r) j s = refuses r (at (S.Refused k r) j) 0
 
--- an empty input answers WANT before anything else, except in a refused parser; a record that no file leads to is refused 1
+-- an empty input answers WANT before anything else, except in a refused parser; a record that no file leads to is refused
 -- with input there and 0 consumed
 unfoldable pub stepOf : ContainerParser → List ℕ → Told
 stepOf p s =
     if (and (empty s) (not (isRefused p))) (wants p 0)
-    (if (impossible p) (refuse InvalidBox p 0)
+    (if (impossible p) (refuse ImpossibleRecord p 0)
     (stateStep (p .state) (p .jxlp) s))

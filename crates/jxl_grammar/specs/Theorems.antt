@@ -5,7 +5,9 @@ use mathlib.Core.Bool.{false}
 use mathlib.Core.List.{List, [], _∷_}
 use Prim.Native.Nat.{ℕ, _+_, _/_, _<_, _≤_, _^_}
 use lib.ListN.{length}
-use Rattle.jxl_headers.specs.Refusals.{Why, refusal}
+use Rattle.jxl_refusals.specs.Refusals.{Why, Naming, why, inDocument01, merged}
+use Rattle.jxl_refusals.specs.declared.BoxRefusal.{BoxRefusal}
+use Rattle.jxl_refusals.specs.declared.BoxRefusal.the-variants.{ImpossibleRecord}
 use Rattle.jxl_record.specs.Record.{fresh, isRefused, kindOf}
 use Rattle.jxl_grammar.specs.Step.{Told, shows, wants, refuses, stepOf}
 use Rattle.jxl_record.specs.declared.BitstreamKind.{BitstreamKind}
@@ -19,7 +21,8 @@ use Rattle.jxl_cuts.specs.Feeding as Any
 use Rattle.jxl_cuts.specs.Theorems as AnyTheorems
 pub use Rattle.jxl_cuts.specs.Theorems.{All}
 use Rattle.jxl_grammar.specs.Parser.{parserBy, parser}
-use Rattle.jxl_grammar.specs.Grammar.{want, Listing, file}
+use Rattle.jxl_grammar.specs.Grammar.{want, ListingBy, Listing, file}
+use Rattle.jxl_grammar.specs.Naming.{toldAs, stopAs, listingAs, stepBy, fileBy}
 use Rattle.jxl_joiner.specs.Joiner.{run, AllCounted}
 use Rattle.jxl_grammar.specs.Feeding.{Shown, Seen, events, taking, take, joined, feeding, bytesOf, Takes}
 use Rattle.jxl_joiner.specs.declared.MaybeEvent.the-variants.{None}
@@ -36,7 +39,7 @@ ListsEveryFile step = (s : List ℕ) → listing {step = step} (Any.feeding (par
 -- versions to catch: a parser that only refuses, one that only says KIND invalid, one that only says WANT, and one that gives its first
 -- event rightly and then says WANT
 abbrev pub onlyRefuses : ContainerParser → List ℕ → Told
-onlyRefuses p s = refuses (refusal 1 []) p 0
+onlyRefuses p s = refuses ImpossibleRecord p 0
 
 abbrev pub onlyInvalid : ContainerParser → List ℕ → Told
 onlyInvalid p s = shows (E.BitstreamKind K.Invalid) p 0
@@ -87,6 +90,22 @@ abbrev pub EveryCutOfAFile : Type 0
 EveryCutOfAFile =
     (xs : List (List ℕ)) → (joined (events (feeding fresh 0 xs)) ≡ file (bytesOf xs) .events)
     × (feeding fresh 0 xs .consumed ≡ file (bytesOf xs) .consumed) × (feeding fresh 0 xs .stop ≡ file (bytesOf xs) .stop)
+
+-- the events of packets joined, the bytes consumed, and the stop by a naming
+abbrev pub joinedBy : Naming → Seen → ListingBy Why
+joinedBy name r = record { events = joined (events r); consumed = r .consumed; stop = stopAs name (r .stop) }
+
+-- whatever the refusals are called: by `why` this is the listing with each refusal's number and values
+abbrev pub EveryCutByName : Type 0
+EveryCutByName = (name : Naming) (xs : List (List ℕ)) → joinedBy name (feeding fresh 0 xs) ≡ fileBy name (bytesOf xs)
+
+-- merges back: with numbers 10 to 19 merged into 1, what a step tells is document 01's, for every record and input
+abbrev pub StepMergesBack : Type 0
+StepMergesBack = (p : ContainerParser) (s : List ℕ) → toldAs merged (stepBy why p s) ≡ stepBy inDocument01 p s
+
+-- and so is what a file lists, cut in any packets
+abbrev pub EveryCutMergesBack : Type 0
+EveryCutMergesBack = (xs : List (List ℕ)) → listingAs merged (joinedBy why (feeding fresh 0 xs)) ≡ fileBy inDocument01 (bytesOf xs)
 
 -- the bytes shown are the file's at the event's place, and all of them are there
 abbrev pub Right : List ℕ → Shown → Type 0
@@ -149,7 +168,7 @@ KindOfAFile = (xs : List (List ℕ)) → kindOf (feeding fresh 0 xs .next) ≡ k
 
 -- a refusal leaves the kind what it was; from any record, one that no file leads to as well
 abbrev pub RefusalKeepsKind : Type 0
-RefusalKeepsKind = (p : ContainerParser) (s : List ℕ) (w : Why) (q : ContainerParser) (c : ℕ) → stepOf p s ≡ refuses w q c → kindOf q ≡ kindOf p
+RefusalKeepsKind = (p : ContainerParser) (s : List ℕ) (w : BoxRefusal) (q : ContainerParser) (c : ℕ) → stepOf p s ≡ refuses w q c → kindOf q ≡ kindOf p
 
 -- joiner: of events whose ends 64 bits can count, it hands back the joined ones
 abbrev pub JoinerJoins : Type 0

@@ -1,12 +1,11 @@
 -- Two answers that meet a promise are equal, and so are the buffers that they leave.
 use mathlib.Core.Path.{sym, _∙_}
 use Rattle.jxl_base.proofs.OneAnswer.{one-named}
-use Rattle.jxl_headers.specs.Refusals.{why}
 use Rattle.jxl_lines.specs.Lines.{printed}
 use Rattle.jxl_lines.specs.Theorems.{OneRefused, OnePut}
 
 pub one-refused : OneRefused
-one-refused w = one-named (printed (why w))
+one-refused w = one-named (printed w)
 
 pub one-put : OnePut
 one-put d at l x y b c p q = let same = p ∙ sym q in (cc, cc)

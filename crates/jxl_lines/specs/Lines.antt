@@ -4,7 +4,8 @@ use mathlib.Core.List.{List, [], _∷_, _++_}
 use Prim.Native.Nat.{ℕ, _^_, _<_}
 use lib.Dec.{eqb}
 use Rattle.jxl_headers.specs.Bytes.{if}
-use Rattle.jxl_headers.specs.Refusals.{Why, refusal}
+use Rattle.jxl_refusals.specs.Refusals.{Why, refusal, why, merged}
+use Rattle.jxl_refusals.specs.declared.BoxRefusal.{BoxRefusal}
 use Rattle.jxl_record.specs.declared.BitstreamKind.{BitstreamKind}
 use Rattle.jxl_record.specs.declared.BitstreamKind.the-variants as K
 use Rattle.jxl_events.specs.declared.ParseEvent.{ParseEvent}
@@ -66,9 +67,13 @@ stopWord Want = 119 ∷ 97 ∷ 110 ∷ 116 ∷ []
 stopWord Refused1 = 114 ∷ 101 ∷ 102 ∷ 117 ∷ 115 ∷ 101 ∷ 100 ∷ 49 ∷ []
 stopWord Refused2 = 114 ∷ 101 ∷ 102 ∷ 117 ∷ 115 ∷ 101 ∷ 100 ∷ 50 ∷ []
 
--- what is printed of a refusal, by its number: 1 or 2, the only two there are
-abbrev pub printed : Why → StopWord
-printed (refusal n told) = if (eqb n 1) Refused1 Refused2
+-- the word of a refusal by its number in document 01: 1 or 2, the only two there are
+abbrev pub refusedWord : Why → StopWord
+refusedWord (refusal n values) = if (eqb n 1) Refused1 Refused2
+
+-- what is printed of a refusal: numbers 10 to 19 are merged back into 1
+abbrev pub printed : BoxRefusal → StopWord
+printed r = refusedWord (merged (why r))
 
 -- the fields of an event's line
 abbrev pub eventFields : ParseEvent → List (List ℕ)

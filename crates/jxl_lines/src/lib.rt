@@ -1,11 +1,10 @@
 // The lines of the listing, as values. Their bytes stand in specs/Lines.antt; theorems on them in specs/Theorems.antt.
 use jxl_events::ParseEvent;
-use jxl_headers::BoxRefusal;
+use jxl_refusals::BoxRefusal;
 ghost use mathlib.Core.Path.{_≡_};
-ghost use Rattle.jxl_headers.specs.Refusals.{why};
 ghost use Rattle.jxl_lines.specs.Lines.{printed};
 
-// Why a listing ends, as it is printed: more is wanted, or a refusal by its number in the paper.
+// Why a listing ends, as it is printed: more is wanted, or a refusal by its number in document 01.
 pub enum StopWord {
     Want,
     Refused1,
@@ -15,11 +14,23 @@ pub enum StopWord {
 impl StopWord {
     // What is printed of a refusal.
     pub fn refused(refusal: BoxRefusal) -> StopWord
-        ensures { λ r. ⌜ r ≡ printed (why refusal) ⌝ }
+        ensures { λ r. ⌜ r ≡ printed refusal ⌝ }
     {
         match refusal {
-            BoxRefusal::InvalidBox => StopWord::Refused1,
             BoxRefusal::ValidationFailed => StopWord::Refused2,
+            BoxRefusal::ShortSize => StopWord::Refused1,
+            BoxRefusal::ExtendedSize => StopWord::Refused1,
+            BoxRefusal::SecondJxlc => StopWord::Refused1,
+            BoxRefusal::JxlcAfterJxlp => StopWord::Refused1,
+            BoxRefusal::JxlpTooSmall => StopWord::Refused1,
+            BoxRefusal::JxlpAfterJxlc => StopWord::Refused1,
+            BoxRefusal::JxlpAfterLast => StopWord::Refused1,
+            BoxRefusal::WrongIndex {
+                expected: _,
+                found: _,
+            } => StopWord::Refused1,
+            BoxRefusal::BrobTooSmall => StopWord::Refused1,
+            BoxRefusal::ImpossibleRecord => StopWord::Refused1,
         }
     }
 }

@@ -8,7 +8,7 @@ use native.Mathlib.Omega.{arith}
 use lib.Dec.{leb, ltb}
 use lib.ListN.{length, drop}
 use borrow.Author.Tests.{leb-true, leb-false, ltb-true, ltb-false}
-use Rattle.jxl_headers.specs.Refusals.{Why}
+use Rattle.jxl_refusals.specs.declared.BoxRefusal.{BoxRefusal}
 use Rattle.jxl_grammar.specs.Step.{Told, shows, wants, refuses, stepOf}
 use Rattle.jxl_events.specs.Event.{shifted}
 use Rattle.jxl_record.specs.declared.ContainerParser.{ContainerParser}
@@ -40,7 +40,7 @@ pub data Goes (base : ℕ) (s : List ℕ) : ℕ → ContainerParser → MaybeEve
   lacks : {room k c : ℕ} {p q : ContainerParser} {h : MaybeEvent} {u : Turned} {d e : ParseEvent} → stepOf p (drop k s) ≡ shows d q c → e ≡ shifted base (shifted k d)
       → room < length (lineOf h e) → u ≡ over TurnEnd.Full p h k → Goes base s room p h k u
   waits : {room k c : ℕ} {p q : ContainerParser} {h : MaybeEvent} {u : Turned} → stepOf p (drop k s) ≡ wants q c → u ≡ over (TurnEnd.Stopped S.Want) q h (k + c) → Goes base s room p h k u
-  ends : {room k c : ℕ} {x : Why} {p q : ContainerParser} {h : MaybeEvent} {u : Turned} → stepOf p (drop k s) ≡ refuses x q c
+  ends : {room k c : ℕ} {x : BoxRefusal} {p q : ContainerParser} {h : MaybeEvent} {u : Turned} → stepOf p (drop k s) ≡ refuses x q c
       → u ≡ over (TurnEnd.Stopped (printed x)) q h (k + c) → Goes base s room p h k u
 
 module _ (base : ℕ) (s : List ℕ) where

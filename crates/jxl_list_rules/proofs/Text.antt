@@ -8,7 +8,7 @@ use lib.Seq.{take-all, drop-drop}
 use lib.Dec.{leb}
 use borrow.Author.Tests.{le-leb, lt-leb}
 use Rattle.jxl_grammar.specs.Laws.{Inside}
-use Rattle.jxl_headers.specs.Refusals.{Why}
+use Rattle.jxl_refusals.specs.declared.BoxRefusal.{BoxRefusal}
 use Rattle.jxl_record.specs.Record.{fresh}
 use Rattle.jxl_grammar.specs.Step.{Told, shows, wants, refuses, stepOf}
 use Rattle.jxl_events.specs.Event.{shifted, placeOf}
@@ -54,7 +54,7 @@ module _ (p : ContainerParser) (f : List ℕ) (at : ℕ) (h : at ≤ length f) w
   pub wants-fits : {q : ContainerParser} {c : ℕ} → stepOf p (drop at f) ≡ wants q c → at + c ≤ length f
   wants-fits s = omega (arith, (rw s at (every-step p (drop at f))) .0, length-drop at f)
 
-  pub refuses-fits : {q : ContainerParser} {c : ℕ} {w : Why} → stepOf p (drop at f) ≡ refuses w q c → at + c ≤ length f
+  pub refuses-fits : {q : ContainerParser} {c : ℕ} {w : BoxRefusal} → stepOf p (drop at f) ≡ refuses w q c → at + c ≤ length f
   refuses-fits s = omega (arith, (rw s at (every-step p (drop at f))) .0, length-drop at f)
 
 -- the text of all that is still to come of the file, from `at` on, and how many events it has

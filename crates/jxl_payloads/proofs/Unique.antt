@@ -1,10 +1,8 @@
 -- Two answers that meet a promise are equal.
 use mathlib.Core.Path.{_≡_}
 use Rattle.jxl_base.proofs.OneAnswer.{one-told}
-use Rattle.jxl_headers.specs.Refusals.{why}
 use Rattle.jxl_payloads.specs.Told.{told}
 use Rattle.jxl_payloads.specs.Theorems.{OneResult}
-use Rattle.jxl_headers.proofs.Header.{why-one}
 use Rattle.jxl_payloads.specs.declared.StepResult.{StepResult}
 use Rattle.jxl_payloads.specs.declared.StepResult.the-variants as A
 
@@ -17,10 +15,7 @@ told-one (A.Want p n) (A.Want q m) h = cc
 told-one (A.Want p n) (A.Refused q m r) h = cc
 told-one (A.Refused p n r) (A.Shown q m f) h = cc
 told-one (A.Refused p n r) (A.Want q m) h = cc
-told-one (A.Refused p n r) (A.Refused q m u) h =
-    let same : why r ≡ why u = cc in
-    let name : r ≡ u = why-one r u same in
-    cc
+told-one (A.Refused p n r) (A.Refused q m u) h = cc
 
 pub one-result : OneResult
 one-result x = one-told told told-one x

@@ -1,13 +1,13 @@
 // One step inside a payload, after the Rust's container/parse.rs: inside a codestream or a side box, at a `jxlp` index, at the
 // inner type of a `brob`. The input is lent whole, and the payload starts `at` bytes on.
 use jxl_events::ParseEvent;
-use jxl_headers::BoxRefusal;
 use jxl_headers::BytesLeft;
 use jxl_headers::box_header;
 use jxl_record::BitstreamKind;
 use jxl_record::ContainerParser;
 use jxl_record::DetectState;
 use jxl_record::JxlpIndexState;
+use jxl_refusals::BoxRefusal;
 ghost use mathlib.Core.Path.{_≡_};
 ghost use Prim.Native.Nat.{_+_, _-_, _^_, _<_, min};
 ghost use lib.Dec.{ltb};
@@ -204,7 +204,8 @@ pub fn index_step(i: u32, left: BytesLeft, s: &[u8], at: usize) -> StepResult
         };
     }
     let word = box_header::be32_at(s, at);
-    if word % 0x8000_0000 == i {
+    let found = word % 0x8000_0000;
+    if found == i {
         return code_step(
             row(word, i),
             BitstreamKind::Container,
@@ -214,7 +215,7 @@ pub fn index_step(i: u32, left: BytesLeft, s: &[u8], at: usize) -> StepResult
             at + 4,
         );
     }
-    refuse(BoxRefusal::InvalidBox, waiting, at + 4)
+    refuse(BoxRefusal::WrongIndex { expected: i, found }, waiting, at + 4)
 }
 
 // Whether the type may not stand inside a `brob`.

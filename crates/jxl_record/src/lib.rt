@@ -1,6 +1,6 @@
 // The container parser's record, after the Rust's container.rs: a value that goes in and comes back.
-use jxl_headers::BoxRefusal;
 use jxl_headers::BytesLeft;
+use jxl_refusals::BoxRefusal;
 ghost use mathlib.Core.Path.{_≡_};
 ghost use Rattle.jxl_record.specs.Record.{at, fresh, impossible, kindOf, noIndex, overIndex};
 

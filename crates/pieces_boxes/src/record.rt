@@ -1,10 +1,10 @@
 // A record written as text: a letter for its state, the bytes left, the codestream boxes so far.
-use jxl_headers::BoxRefusal;
 use jxl_headers::BytesLeft;
 use jxl_record::BitstreamKind;
 use jxl_record::ContainerParser;
 use jxl_record::DetectState;
 use jxl_record::JxlpIndexState;
+use jxl_refusals::BoxRefusal;
 
 // `e` is to the end, else a number of bytes.
 fn bytes_left(line: &[u8], at: usize) -> BytesLeft {

@@ -5,7 +5,6 @@ use native.Mathlib.Omega.{arith}
 use lib.ListN.{length, drop}
 use denote.Ref.{now}
 use borrow.Author.Needs.{needs}
-use Rattle.jxl_headers.specs.Refusals.{why}
 use Rattle.jxl_events.specs.Event.{shifted}
 use Rattle.jxl_events.proofs.Shifted.{moved-fits}
 use Rattle.jxl_grammar.specs.Step.{shows, wants, refuses, stepOf}
@@ -53,7 +52,7 @@ wanted c =
     far (t .parser) (now (c .before .before .before .before .before .before .before .before .before .before .before .args .input)) (t .consumed) (c .before .before .before .before .before .before .loop .inv .inside) (c .before .before .step .ensures) (ap told (c .next2 .given .1))
 
 refused : (c : tie.After-next3 Inv-loop μ-loop) → let t = c .before .before .before .before .before .before .loop .t in
-    let n = c .next3 .given .0 in stepOf (t .parser) (drop (t .consumed) (now (c .before .before .before .before .before .before .before .before .before .before .before .args .input))) ≡ refuses (why (n .1 .1 .0)) (n .0) (n .1 .0)
+    let n = c .next3 .given .0 in stepOf (t .parser) (drop (t .consumed) (now (c .before .before .before .before .before .before .before .before .before .before .before .args .input))) ≡ refuses (n .1 .1 .0) (n .0) (n .1 .0)
 refused c =
     let t = c .before .before .before .before .before .before .loop .t in
     far (t .parser) (now (c .before .before .before .before .before .before .before .before .before .before .before .args .input)) (t .consumed) (c .before .before .before .before .before .before .loop .inv .inside) (c .before .before .step .ensures) (ap told (c .next3 .given .1))

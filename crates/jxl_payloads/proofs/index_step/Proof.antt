@@ -51,7 +51,7 @@ refuse-requires c κs = search needs
 returns-3 : tie.Need-returns-3
 returns-3 c =
     c .refuse .ensures
-    ∙ rw (c .before .before .before .before .before .at .ensures)
+    ∙ rw (c .before .before .before .before .before .at .ensures, c .before .before .be32-at .ensures)
     (sym (far-index-wrong (now (c .before .before .before .before .before .before .before .args .s)) _ _ _ (ltb-false _ _ (sym (c .before .before .before .before .is-short .ensures) ∙ c .before .before .before .if1 .left)) (rw (c .before .before .be32-at .ensures) at (c .before .if2 .left))))
 
 pub index-step-spec : {M : Type 1} → statement M

@@ -1,0 +1,53 @@
+// Why a parser refuses: which rule of the container broke.
+ghost use mathlib.Core.Path.{_≡_};
+ghost use Rattle.jxl_refusals.specs.Refusals.{numberOf, why};
+
+// The rule that broke. The number of each, and the values that it tells, are `why` of specs/Refusals.antt.
+pub enum BoxRefusal {
+    // A box size of 2 to 7.
+    ShortSize,
+    // An extended box size under 16.
+    ExtendedSize,
+    // A `jxlc` behind a `jxlc`.
+    SecondJxlc,
+    // A `jxlc` behind a `jxlp`.
+    JxlcAfterJxlp,
+    // A `jxlp` whose payload has no room for its index.
+    JxlpTooSmall,
+    // A `jxlp` behind a `jxlc`.
+    JxlpAfterJxlc,
+    // A `jxlp` behind the one marked as the last.
+    JxlpAfterLast,
+    // Another `jxlp` index than the next one. The one expected is at most 2^31; the one found has 31 bits.
+    WrongIndex { expected: u32, found: u32 },
+    // A `brob` whose payload has no room for its inner type.
+    BrobTooSmall,
+    // A record that no file leads to.
+    ImpossibleRecord,
+    // A reserved type inside a `brob`.
+    ValidationFailed,
+}
+
+impl BoxRefusal {
+    // The refusal's number.
+    pub fn number(self) -> u32
+        ensures { λ r. ⌜ r ≡ numberOf (why self) ⌝ }
+    {
+        match self {
+            BoxRefusal::ShortSize => 10,
+            BoxRefusal::ExtendedSize => 11,
+            BoxRefusal::SecondJxlc => 12,
+            BoxRefusal::JxlcAfterJxlp => 13,
+            BoxRefusal::JxlpTooSmall => 14,
+            BoxRefusal::JxlpAfterJxlc => 15,
+            BoxRefusal::JxlpAfterLast => 16,
+            BoxRefusal::WrongIndex {
+                expected: _,
+                found: _,
+            } => 17,
+            BoxRefusal::BrobTooSmall => 18,
+            BoxRefusal::ImpossibleRecord => 19,
+            BoxRefusal::ValidationFailed => 2,
+        }
+    }
+}
