@@ -1,12 +1,12 @@
 // One step of the container parser, after the Rust's container/parse.rs: a record by value and a part of the input go in; an event,
 // WANT or a refusal comes back, each with the next record and the bytes consumed. One small function for each state.
+use jxl_codestream::code_step;
 use jxl_headers::box_header;
 use jxl_headers::box_header::HeaderParseResult;
 use jxl_headers::consts;
 use jxl_headers::consts::Signature;
-use jxl_payloads::code_step;
-use jxl_payloads::index_step;
-use jxl_payloads::inner_step;
+use jxl_payload_starts::index_step;
+use jxl_payload_starts::inner_step;
 use jxl_payloads::refuse;
 ghost use mathlib.Core.Path.{_≡_};
 ghost use mathlib.Core.Bool.{false};

@@ -2,8 +2,8 @@ use mathlib.Core.Path.{_≡_, sym, ap, _∙_}
 use native.Mathlib.Nat.{add-zero}
 use borrow.Author.Tests.{le-leb, lt-leb}
 use borrow.Author.Needs.{needs}
-use Rattle.jxl_payloads.proofs.code_part.Statement.{statement}
-use Rattle.jxl_payloads.proofs.code_part.Tie as tie
+use Rattle.jxl_codestream.proofs.code_part.Statement.{statement}
+use Rattle.jxl_codestream.proofs.code_part.Tie as tie
 
 enum-told : tie.Need-enum-told
 enum-told c = search needs

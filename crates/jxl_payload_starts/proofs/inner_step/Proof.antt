@@ -7,8 +7,8 @@ use Rattle.jxl_headers.specs.Types.{reserved}
 use Rattle.jxl_grammar.proofs.Step.{far-inner-wants, far-inner-reserved, far-inner-shows}
 use borrow.Author.Tests.{ltb-true, ltb-false}
 use borrow.Author.Needs.{needs}
-use Rattle.jxl_payloads.proofs.inner_step.Statement.{statement}
-use Rattle.jxl_payloads.proofs.inner_step.Tie as tie
+use Rattle.jxl_payload_starts.proofs.inner_step.Statement.{statement}
+use Rattle.jxl_payload_starts.proofs.inner_step.Tie as tie
 
 at-requires : tie.Need-at-requires
 at-requires c κs = search needs

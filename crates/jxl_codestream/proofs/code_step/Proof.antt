@@ -2,8 +2,8 @@ use mathlib.Core.Path.{_≡_, sym, ap, _∙_}
 use denote.Ref.{now}
 use Rattle.jxl_grammar.proofs.Step.{far-code-wants, far-code-pending, far-code-shows}
 use borrow.Author.Needs.{needs}
-use Rattle.jxl_payloads.proofs.code_step.Statement.{statement}
-use Rattle.jxl_payloads.proofs.code_step.Tie as tie
+use Rattle.jxl_codestream.proofs.code_step.Statement.{statement}
+use Rattle.jxl_codestream.proofs.code_step.Tie as tie
 
 in-codestream-requires : tie.Need-in-codestream-requires
 in-codestream-requires c κs = search needs

@@ -1,7 +1,7 @@
 use mathlib.Core.Path.{_≡_, sym, ap, _∙_}
 use borrow.Author.Tests.{eq-eqb, ne-eqb}
-use Rattle.jxl_payloads.proofs.is_reserved.Statement.{statement}
-use Rattle.jxl_payloads.proofs.is_reserved.Tie as tie
+use Rattle.jxl_payload_starts.proofs.is_reserved.Statement.{statement}
+use Rattle.jxl_payload_starts.proofs.is_reserved.Tie as tie
 
 returns : tie.Need-returns
 returns c = rw (eq-eqb _ _ (c .if1 .taken))

@@ -1,7 +1,7 @@
 use Rattle.jxl_base.proofs.Room.{short-all, short-behind}
 use borrow.Author.Needs.{needs}
-use Rattle.jxl_payloads.proofs.is_short.Statement.{statement}
-use Rattle.jxl_payloads.proofs.is_short.Tie as tie
+use Rattle.jxl_payload_starts.proofs.is_short.Statement.{statement}
+use Rattle.jxl_payload_starts.proofs.is_short.Tie as tie
 
 sub-result : tie.Need-sub-result
 sub-result c = search needs

@@ -1,7 +1,7 @@
 use mathlib.Core.Path.{_≡_, sym, ap, _∙_}
 use borrow.Author.Tests.{le-leb, lt-leb}
-use Rattle.jxl_payloads.proofs.row.Statement.{statement}
-use Rattle.jxl_payloads.proofs.row.Tie as tie
+use Rattle.jxl_payload_starts.proofs.row.Statement.{statement}
+use Rattle.jxl_payload_starts.proofs.row.Tie as tie
 
 returns : tie.Need-returns
 returns c = rw (le-leb _ _ (c .if1 .taken))

@@ -6,8 +6,8 @@ use denote.Ref.{now}
 use Rattle.jxl_grammar.proofs.Step.{far-index-wants, far-index-right, far-index-wrong}
 use borrow.Author.Tests.{ltb-true, ltb-false}
 use borrow.Author.Needs.{needs}
-use Rattle.jxl_payloads.proofs.index_step.Statement.{statement}
-use Rattle.jxl_payloads.proofs.index_step.Tie as tie
+use Rattle.jxl_payload_starts.proofs.index_step.Statement.{statement}
+use Rattle.jxl_payload_starts.proofs.index_step.Tie as tie
 
 at-requires : tie.Need-at-requires
 at-requires c κs = search needs
