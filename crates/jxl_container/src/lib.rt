@@ -1,19 +1,16 @@
 // One step of the container parser, after the Rust's container/parse.rs: a record by value and a part of the input go in; an event,
 // WANT or a refusal comes back, each with the next record and the bytes consumed. One small function for each state.
 use jxl_codestream::code_step;
+use jxl_first_steps::empty_step;
+use jxl_first_steps::signature_step;
 use jxl_headers::box_header;
 use jxl_headers::box_header::HeaderParseResult;
-use jxl_headers::consts;
-use jxl_headers::consts::Signature;
 use jxl_payload_starts::index_step;
 use jxl_payload_starts::inner_step;
 use jxl_payloads::refuse;
 ghost use mathlib.Core.Path.{_≡_};
 ghost use mathlib.Core.Bool.{false};
-ghost use mathlib.Core.List.{[]};
-ghost use Prim.Native.Nat.{_≤_};
-ghost use lib.ListN.{length, drop};
-ghost use Rattle.jxl_headers.specs.Signature.{signatureOf};
+ghost use lib.ListN.{drop};
 ghost use Rattle.jxl_headers.specs.Header.{headerOf};
 ghost use Rattle.jxl_record.specs.Record.{impossible, overIndex};
 ghost use Rattle.jxl_grammar.specs.Step as Spec;
@@ -35,118 +32,6 @@ pub use jxl_record::ContainerParser;
 pub use jxl_record::DetectState;
 pub use jxl_record::JxlpIndexState;
 pub use jxl_refusals::BoxRefusal;
-
-// The same reach, made anew field by field: a copy takes the unused bytes along, which costs more than the step itself.
-fn anew(left: BytesLeft) -> BytesLeft
-    ensures { λ r. ⌜ r ≡ left ⌝ }
-{
-    match left {
-        BytesLeft::ToEnd => BytesLeft::ToEnd,
-        BytesLeft::Bytes(m) => BytesLeft::Bytes(m),
-    }
-}
-
-// The same refusal, made anew for the same reason.
-fn same_refusal(refusal: BoxRefusal) -> BoxRefusal
-    ensures { λ r. ⌜ r ≡ refusal ⌝ }
-{
-    match refusal {
-        BoxRefusal::ShortSize => BoxRefusal::ShortSize,
-        BoxRefusal::ExtendedSize => BoxRefusal::ExtendedSize,
-        BoxRefusal::SecondJxlc => BoxRefusal::SecondJxlc,
-        BoxRefusal::JxlcAfterJxlp => BoxRefusal::JxlcAfterJxlp,
-        BoxRefusal::JxlpTooSmall => BoxRefusal::JxlpTooSmall,
-        BoxRefusal::JxlpAfterJxlc => BoxRefusal::JxlpAfterJxlc,
-        BoxRefusal::JxlpAfterLast => BoxRefusal::JxlpAfterLast,
-        BoxRefusal::WrongIndex { found, expected } => BoxRefusal::WrongIndex { found, expected },
-        BoxRefusal::BrobTooSmall => BoxRefusal::BrobTooSmall,
-        BoxRefusal::ImpossibleRecord => BoxRefusal::ImpossibleRecord,
-        BoxRefusal::ValidationFailed => BoxRefusal::ValidationFailed,
-    }
-}
-
-// The same record, made anew field by field, for the same reason.
-fn same(p: ContainerParser) -> ContainerParser
-    ensures { λ r. ⌜ r ≡ p ⌝ }
-{
-    let state = p.state;
-    let jxlp = p.jxlp;
-    match state {
-        DetectState::WaitingSignature => {
-            ContainerParser::at(DetectState::WaitingSignature, jxlp)
-        }
-        DetectState::WaitingBoxHeader => {
-            ContainerParser::at(DetectState::WaitingBoxHeader, jxlp)
-        }
-        DetectState::WaitingJxlpIndex(left) => {
-            ContainerParser::at(DetectState::WaitingJxlpIndex(anew(left)), jxlp)
-        }
-        DetectState::WaitingInnerType(left) => {
-            ContainerParser::at(DetectState::WaitingInnerType(anew(left)), jxlp)
-        }
-        DetectState::InAuxBox {
-            ty,
-            bytes_left: left,
-        } => {
-            let l = anew(left);
-            ContainerParser::at(DetectState::InAuxBox { ty, bytes_left: l }, jxlp)
-        }
-        DetectState::InCodestream {
-            kind,
-            bytes_left: left,
-            pending_no_more_aux_box,
-        } => {
-            let l = anew(left);
-            let anew = DetectState::InCodestream {
-                kind,
-                bytes_left: l,
-                pending_no_more_aux_box,
-            };
-            ContainerParser::at(anew, jxlp)
-        }
-        DetectState::Refused { kind, refusal } => {
-            let r = same_refusal(refusal);
-            ContainerParser::at(DetectState::Refused { kind, refusal: r }, jxlp)
-        }
-    }
-}
-
-// At the signature.
-fn signature_step(jxlp: JxlpIndexState, s: &[u8]) -> StepResult
-    ensures { λ r. ⌜ told r ≡ Spec.signatureStep jxlp (signatureOf (now (s .entry))) ⌝ }
-{
-    match consts::which_signature(s) {
-        Signature::Bare => kind_step(BitstreamKind::BareCodestream, jxlp),
-        Signature::Container => StepResult::Shown {
-            event: ParseEvent::BitstreamKind(BitstreamKind::Container),
-            next: ContainerParser::at(DetectState::WaitingBoxHeader, jxlp),
-            consumed: 12,
-        },
-        Signature::TooShort => StepResult::Want {
-            next: ContainerParser::at(DetectState::WaitingSignature, jxlp),
-            consumed: 0,
-        },
-        Signature::Neither => kind_step(BitstreamKind::Invalid, jxlp),
-    }
-}
-
-// A file with no boxes: its kind, and then all of it is codestream.
-fn kind_step(kind: BitstreamKind, jxlp: JxlpIndexState) -> StepResult
-    ensures { λ r. ⌜ told r ≡ Spec.bareStep kind jxlp ⌝ }
-{
-    StepResult::Shown {
-        event: ParseEvent::BitstreamKind(kind),
-        next: ContainerParser::at(
-            DetectState::InCodestream {
-                kind,
-                bytes_left: BytesLeft::ToEnd,
-                pending_no_more_aux_box: true,
-            },
-            jxlp,
-        ),
-        consumed: 0,
-    }
-}
 
 // A refusal of the box whose header ends at `at`.
 fn refuse_box(refusal: BoxRefusal, jxlp: JxlpIndexState, at: usize) -> StepResult
@@ -317,56 +202,11 @@ fn state_step(p: ContainerParser, s: &[u8]) -> StepResult
     }
 }
 
-// A step on an empty input: WANT, except in a refused parser.
-fn empty_step(p: ContainerParser) -> StepResult
-    ensures { λ r. ⌜ told r ≡ Spec.stepOf p [] ⌝ }
-{
-    let state = p.state;
-    match state {
-        DetectState::WaitingSignature => StepResult::Want {
-            next: p,
-            consumed: 0,
-        },
-        DetectState::WaitingBoxHeader => StepResult::Want {
-            next: p,
-            consumed: 0,
-        },
-        DetectState::WaitingJxlpIndex(_) => StepResult::Want {
-            next: p,
-            consumed: 0,
-        },
-        DetectState::WaitingInnerType(_) => StepResult::Want {
-            next: p,
-            consumed: 0,
-        },
-        DetectState::InAuxBox {
-            ty: _,
-            bytes_left: _,
-        } => StepResult::Want {
-            next: p,
-            consumed: 0,
-        },
-        DetectState::InCodestream {
-            kind: _,
-            bytes_left: _,
-            pending_no_more_aux_box: _,
-        } => StepResult::Want {
-            next: p,
-            consumed: 0,
-        },
-        DetectState::Refused { kind: _, refusal } => StepResult::Refused {
-            refusal,
-            next: p,
-            consumed: 0,
-        },
-    }
-}
-
 // One step of the parser on the input.
 pub fn step(parser: ContainerParser, input: &[u8]) -> StepResult
     ensures { λ r. ⌜ told r ≡ Spec.stepOf parser (now (input .entry)) ⌝ }
 {
-    let p = same(parser);
+    let p = jxl_anew::same(parser);
     if input.len() == 0 {
         return empty_step(p);
     }

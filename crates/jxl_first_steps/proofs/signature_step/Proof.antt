@@ -1,7 +1,7 @@
 use mathlib.Core.Path.{_≡_, sym, ap, _∙_}
 use borrow.Author.Needs.{needs}
-use Rattle.jxl_container.proofs.signature_step.Statement.{statement}
-use Rattle.jxl_container.proofs.signature_step.Tie as tie
+use Rattle.jxl_first_steps.proofs.signature_step.Statement.{statement}
+use Rattle.jxl_first_steps.proofs.signature_step.Tie as tie
 
 which-signature-requires : tie.Need-which-signature-requires
 which-signature-requires c κs = search needs

@@ -2,8 +2,8 @@ use mathlib.Core.Path.{_≡_, sym, ap, _∙_}
 use Rattle.jxl_record.specs.Record.{refusedIn}
 use Rattle.jxl_grammar.proofs.Step.{step-empty, step-empty-refused}
 use borrow.Author.Needs.{needs}
-use Rattle.jxl_container.proofs.empty_step.Statement.{statement}
-use Rattle.jxl_container.proofs.empty_step.Tie as tie
+use Rattle.jxl_first_steps.proofs.empty_step.Statement.{statement}
+use Rattle.jxl_first_steps.proofs.empty_step.Tie as tie
 
 enum-told : tie.Need-enum-told
 enum-told c = search needs

@@ -1,6 +1,6 @@
 use borrow.Author.Needs.{needs}
-use Rattle.jxl_container.proofs.same_refusal.Statement.{statement}
-use Rattle.jxl_container.proofs.same_refusal.Tie as tie
+use Rattle.jxl_anew.proofs.same_refusal.Statement.{statement}
+use Rattle.jxl_anew.proofs.same_refusal.Tie as tie
 
 enum-told : tie.Need-enum-told
 enum-told c = search needs

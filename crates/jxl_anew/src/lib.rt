@@ -1,0 +1,81 @@
+// A record made anew field by field, which a step takes it through first: it keeps the step quick, and changes nothing.
+use jxl_headers::BytesLeft;
+use jxl_record::ContainerParser;
+use jxl_record::DetectState;
+use jxl_refusals::BoxRefusal;
+ghost use mathlib.Core.Path.{_≡_};
+
+// The same reach, made anew field by field: a copy takes the unused bytes along, which costs more than the step itself.
+fn anew(left: BytesLeft) -> BytesLeft
+    ensures { λ r. ⌜ r ≡ left ⌝ }
+{
+    match left {
+        BytesLeft::ToEnd => BytesLeft::ToEnd,
+        BytesLeft::Bytes(m) => BytesLeft::Bytes(m),
+    }
+}
+
+// The same refusal, made anew for the same reason.
+fn same_refusal(refusal: BoxRefusal) -> BoxRefusal
+    ensures { λ r. ⌜ r ≡ refusal ⌝ }
+{
+    match refusal {
+        BoxRefusal::ShortSize => BoxRefusal::ShortSize,
+        BoxRefusal::ExtendedSize => BoxRefusal::ExtendedSize,
+        BoxRefusal::SecondJxlc => BoxRefusal::SecondJxlc,
+        BoxRefusal::JxlcAfterJxlp => BoxRefusal::JxlcAfterJxlp,
+        BoxRefusal::JxlpTooSmall => BoxRefusal::JxlpTooSmall,
+        BoxRefusal::JxlpAfterJxlc => BoxRefusal::JxlpAfterJxlc,
+        BoxRefusal::JxlpAfterLast => BoxRefusal::JxlpAfterLast,
+        BoxRefusal::WrongIndex { found, expected } => BoxRefusal::WrongIndex { found, expected },
+        BoxRefusal::BrobTooSmall => BoxRefusal::BrobTooSmall,
+        BoxRefusal::ImpossibleRecord => BoxRefusal::ImpossibleRecord,
+        BoxRefusal::ValidationFailed => BoxRefusal::ValidationFailed,
+    }
+}
+
+// The same record, made anew field by field, for the same reason.
+pub fn same(p: ContainerParser) -> ContainerParser
+    ensures { λ r. ⌜ r ≡ p ⌝ }
+{
+    let state = p.state;
+    let jxlp = p.jxlp;
+    match state {
+        DetectState::WaitingSignature => {
+            ContainerParser::at(DetectState::WaitingSignature, jxlp)
+        }
+        DetectState::WaitingBoxHeader => {
+            ContainerParser::at(DetectState::WaitingBoxHeader, jxlp)
+        }
+        DetectState::WaitingJxlpIndex(left) => {
+            ContainerParser::at(DetectState::WaitingJxlpIndex(anew(left)), jxlp)
+        }
+        DetectState::WaitingInnerType(left) => {
+            ContainerParser::at(DetectState::WaitingInnerType(anew(left)), jxlp)
+        }
+        DetectState::InAuxBox {
+            ty,
+            bytes_left: left,
+        } => {
+            let l = anew(left);
+            ContainerParser::at(DetectState::InAuxBox { ty, bytes_left: l }, jxlp)
+        }
+        DetectState::InCodestream {
+            kind,
+            bytes_left: left,
+            pending_no_more_aux_box,
+        } => {
+            let l = anew(left);
+            let anew = DetectState::InCodestream {
+                kind,
+                bytes_left: l,
+                pending_no_more_aux_box,
+            };
+            ContainerParser::at(anew, jxlp)
+        }
+        DetectState::Refused { kind, refusal } => {
+            let r = same_refusal(refusal);
+            ContainerParser::at(DetectState::Refused { kind, refusal: r }, jxlp)
+        }
+    }
+}
