@@ -1,7 +1,15 @@
 // The text of a refusal, put into a lent buffer, for a fault log. The texts stand in specs/Text.antt.
-use jxl_lines::Put;
+pub use jxl_lines::Put;
+use jxl_refusals::BoxRefusal;
 ghost use mathlib.Core.Path.{_≡_};
+ghost use mathlib.Core.List.{_++_};
+ghost use Prim.Native.Nat.{_+_, _≤_};
+ghost use lib.ListN.{length};
+ghost use Rattle.jxl_lines.specs.Digits.{decimal};
+ghost use Rattle.jxl_lines.specs.Pasting.{Pasted};
+ghost use Rattle.jxl_lines.specs.Putting.{leaves, putOf};
 ghost use Rattle.jxl_refusal_text.specs.Place.{placeOf};
+ghost use Rattle.jxl_refusal_text.specs.Text.{text};
 
 // Where the next byte goes, of bytes for which there was room.
 fn place(put: Put) -> usize
@@ -10,5 +18,87 @@ fn place(put: Put) -> usize
     match put {
         Put::Written(next) => return next,
         Put::NoRoom(n) => return n,
+    }
+}
+
+// Words and a number behind them, for which there is room. Answers where the next byte goes.
+fn put_both(out: &mut [u8], at: usize, words: &[u8], n: usize) -> usize
+    requires { ⌜ at + length (now words ++ decimal n) ≤ length (now out) ⌝ }
+    ensures { λ r. ⌜ Pasted (now (out .entry)) at (now (words .entry) ++ decimal n) (now (out .exit)) r ⌝ }
+{
+    let a = place(jxl_listing::put_words(out, at, words));
+    place(jxl_listing::put_number(out, a, n))
+}
+
+// The text of a wrong index, for which there is room.
+fn write_wrong_index(out: &mut [u8], at: usize, expected: usize, found: usize) -> Put
+    requires { ⌜ at + length (text (BoxRefusal.WrongIndex expected found)) ≤ length (now out) ⌝ }
+    ensures { λ r. ⌜ leaves r (now (out .exit)) ≡ putOf (now (out .entry)) at (text (BoxRefusal.WrongIndex expected found)) ⌝ }
+{
+    let a = put_both(out, at, b"jxlp index ", found);
+    let b = put_both(out, a, b" where ", expected);
+    jxl_listing::put_words(out, b, b" was expected")
+}
+
+// The text of a wrong index, if it fits.
+fn put_wrong_index(out: &mut [u8], at: usize, expected: usize, found: usize) -> Put
+    ensures { λ r. ⌜ leaves r (now (out .exit)) ≡ putOf (now (out .entry)) at (text (BoxRefusal.WrongIndex expected found)) ⌝ }
+{
+    // the words have 31 bytes
+    let n = 31 + jxl_lengths::digits(found) + jxl_lengths::digits(expected);
+    if out.len() < at {
+        return Put::NoRoom(n);
+    }
+    if out.len() - at < n {
+        return Put::NoRoom(n);
+    }
+    write_wrong_index(out, at, expected, found)
+}
+
+// Puts the text at `at` if all of it fits there; otherwise the buffer stays as it was, and the text's length is told.
+pub fn put_refusal(out: &mut [u8], at: usize, refusal: BoxRefusal) -> Put
+    ensures { λ r. ⌜ leaves r (now (out .exit)) ≡ putOf (now (out .entry)) at (text refusal) ⌝ }
+{
+    match refusal {
+        BoxRefusal::ShortSize => return jxl_listing::put_words(out, at, b"box size from 2 to 7"),
+        BoxRefusal::ExtendedSize => return jxl_listing::put_words(
+            out,
+            at,
+            b"extended box size under 16",
+        ),
+        BoxRefusal::SecondJxlc => return jxl_listing::put_words(out, at, b"second jxlc"),
+        BoxRefusal::JxlcAfterJxlp => return jxl_listing::put_words(out, at, b"jxlc after jxlp"),
+        BoxRefusal::JxlpTooSmall => return jxl_listing::put_words(
+            out,
+            at,
+            b"jxlp too small for its index",
+        ),
+        BoxRefusal::JxlpAfterJxlc => return jxl_listing::put_words(out, at, b"jxlp after jxlc"),
+        BoxRefusal::JxlpAfterLast => return jxl_listing::put_words(
+            out,
+            at,
+            b"jxlp after the last jxlp",
+        ),
+        BoxRefusal::WrongIndex { expected, found } => return put_wrong_index(
+            out,
+            at,
+            expected as usize,
+            found as usize,
+        ),
+        BoxRefusal::BrobTooSmall => return jxl_listing::put_words(
+            out,
+            at,
+            b"brob too small for its type",
+        ),
+        BoxRefusal::ImpossibleRecord => return jxl_listing::put_words(
+            out,
+            at,
+            b"impossible record",
+        ),
+        BoxRefusal::ValidationFailed => return jxl_listing::put_words(
+            out,
+            at,
+            b"reserved type in brob",
+        ),
     }
 }
