@@ -1,5 +1,7 @@
 // The text of a refusal, put into a lent buffer, for a fault log. The texts stand in specs/Text.antt.
 pub use jxl_lines::Put;
+use jxl_listing::put_number;
+use jxl_listing::put_words;
 use jxl_refusals::BoxRefusal;
 ghost use mathlib.Core.Path.{_≡_};
 ghost use mathlib.Core.List.{_++_};
@@ -26,8 +28,8 @@ fn put_both(out: &mut [u8], at: usize, words: &[u8], n: usize) -> usize
     requires { ⌜ at + length (now words ++ decimal n) ≤ length (now out) ⌝ }
     ensures { λ r. ⌜ Pasted (now (out .entry)) at (now (words .entry) ++ decimal n) (now (out .exit)) r ⌝ }
 {
-    let a = place(jxl_listing::put_words(out, at, words));
-    place(jxl_listing::put_number(out, a, n))
+    let a = place(put_words(out, at, words));
+    place(put_number(out, a, n))
 }
 
 // The text of a wrong index, for which there is room.
@@ -37,7 +39,7 @@ fn write_wrong_index(out: &mut [u8], at: usize, expected: usize, found: usize) -
 {
     let a = put_both(out, at, b"jxlp index ", found);
     let b = put_both(out, a, b" where ", expected);
-    jxl_listing::put_words(out, b, b" was expected")
+    put_words(out, b, b" was expected")
 }
 
 // The text of a wrong index, if it fits.
@@ -60,45 +62,21 @@ pub fn put_refusal(out: &mut [u8], at: usize, refusal: BoxRefusal) -> Put
     ensures { λ r. ⌜ leaves r (now (out .exit)) ≡ putOf (now (out .entry)) at (text refusal) ⌝ }
 {
     match refusal {
-        BoxRefusal::ShortSize => return jxl_listing::put_words(out, at, b"box size from 2 to 7"),
-        BoxRefusal::ExtendedSize => return jxl_listing::put_words(
-            out,
-            at,
-            b"extended box size under 16",
-        ),
-        BoxRefusal::SecondJxlc => return jxl_listing::put_words(out, at, b"second jxlc"),
-        BoxRefusal::JxlcAfterJxlp => return jxl_listing::put_words(out, at, b"jxlc after jxlp"),
-        BoxRefusal::JxlpTooSmall => return jxl_listing::put_words(
-            out,
-            at,
-            b"jxlp too small for its index",
-        ),
-        BoxRefusal::JxlpAfterJxlc => return jxl_listing::put_words(out, at, b"jxlp after jxlc"),
-        BoxRefusal::JxlpAfterLast => return jxl_listing::put_words(
-            out,
-            at,
-            b"jxlp after the last jxlp",
-        ),
+        BoxRefusal::ShortSize => return put_words(out, at, b"box size from 2 to 7"),
+        BoxRefusal::ExtendedSize => return put_words(out, at, b"extended box size under 16"),
+        BoxRefusal::SecondJxlc => return put_words(out, at, b"second jxlc"),
+        BoxRefusal::JxlcAfterJxlp => return put_words(out, at, b"jxlc after jxlp"),
+        BoxRefusal::JxlpTooSmall => return put_words(out, at, b"jxlp too small for its index"),
+        BoxRefusal::JxlpAfterJxlc => return put_words(out, at, b"jxlp after jxlc"),
+        BoxRefusal::JxlpAfterLast => return put_words(out, at, b"jxlp after the last jxlp"),
         BoxRefusal::WrongIndex { expected, found } => return put_wrong_index(
             out,
             at,
             expected as usize,
             found as usize,
         ),
-        BoxRefusal::BrobTooSmall => return jxl_listing::put_words(
-            out,
-            at,
-            b"brob too small for its type",
-        ),
-        BoxRefusal::ImpossibleRecord => return jxl_listing::put_words(
-            out,
-            at,
-            b"impossible record",
-        ),
-        BoxRefusal::ValidationFailed => return jxl_listing::put_words(
-            out,
-            at,
-            b"reserved type in brob",
-        ),
+        BoxRefusal::BrobTooSmall => return put_words(out, at, b"brob too small for its type"),
+        BoxRefusal::ImpossibleRecord => return put_words(out, at, b"impossible record"),
+        BoxRefusal::ValidationFailed => return put_words(out, at, b"reserved type in brob"),
     }
 }

@@ -12,7 +12,7 @@ put-words-requires : tie.Need-put-words-requires
 put-words-requires c κs = search needs
 
 same-length : tie.Need-same-length
-same-length c = search needs
+same-length c = c .before .before .put-words .kept .0
 
 returns : tie.Need-returns
 returns c = rw (c .before .before .before .before .before .enum-told .given .1) (c .before .before .put-words .ensures)
@@ -27,7 +27,7 @@ put-words-requires-2 : tie.Need-put-words-requires-2
 put-words-requires-2 c κs = search needs
 
 same-length-2 : tie.Need-same-length-2
-same-length-2 c = search needs
+same-length-2 c = c .before .before .put-words2 .kept .0
 
 returns-2 : tie.Need-returns-2
 returns-2 c = rw (c .before .before .before .before .before .enum-told2 .given .1) (c .before .before .put-words2 .ensures)
@@ -42,7 +42,7 @@ put-words-requires-3 : tie.Need-put-words-requires-3
 put-words-requires-3 c κs = search needs
 
 same-length-3 : tie.Need-same-length-3
-same-length-3 c = search needs
+same-length-3 c = c .before .before .put-words3 .kept .0
 
 returns-3 : tie.Need-returns-3
 returns-3 c = rw (c .before .before .before .before .before .enum-told3 .given .1) (c .before .before .put-words3 .ensures)
@@ -57,7 +57,7 @@ put-words-requires-4 : tie.Need-put-words-requires-4
 put-words-requires-4 c κs = search needs
 
 same-length-4 : tie.Need-same-length-4
-same-length-4 c = search needs
+same-length-4 c = c .before .before .put-words4 .kept .0
 
 returns-4 : tie.Need-returns-4
 returns-4 c = rw (c .before .before .before .before .before .enum-told4 .given .1) (c .before .before .put-words4 .ensures)
@@ -72,7 +72,7 @@ put-words-requires-5 : tie.Need-put-words-requires-5
 put-words-requires-5 c κs = search needs
 
 same-length-5 : tie.Need-same-length-5
-same-length-5 c = search needs
+same-length-5 c = c .before .before .put-words5 .kept .0
 
 returns-5 : tie.Need-returns-5
 returns-5 c = rw (c .before .before .before .before .before .enum-told5 .given .1) (c .before .before .put-words5 .ensures)
@@ -87,7 +87,7 @@ put-words-requires-6 : tie.Need-put-words-requires-6
 put-words-requires-6 c κs = search needs
 
 same-length-6 : tie.Need-same-length-6
-same-length-6 c = search needs
+same-length-6 c = c .before .before .put-words6 .kept .0
 
 returns-6 : tie.Need-returns-6
 returns-6 c = rw (c .before .before .before .before .before .enum-told6 .given .1) (c .before .before .put-words6 .ensures)
@@ -102,7 +102,7 @@ put-words-requires-7 : tie.Need-put-words-requires-7
 put-words-requires-7 c κs = search needs
 
 same-length-7 : tie.Need-same-length-7
-same-length-7 c = search needs
+same-length-7 c = c .before .before .put-words7 .kept .0
 
 returns-7 : tie.Need-returns-7
 returns-7 c = rw (c .before .before .before .before .before .enum-told7 .given .1) (c .before .before .put-words7 .ensures)
@@ -120,7 +120,7 @@ put-wrong-index-requires : tie.Need-put-wrong-index-requires
 put-wrong-index-requires c κs = search needs
 
 same-length-8 : tie.Need-same-length-8
-same-length-8 c = search needs
+same-length-8 c = c .before .before .put-wrong-index .kept .0
 
 returns-8 : tie.Need-returns-8
 returns-8 c = rw (c .before .before .before .before .before .refusal .given .1) (c .before .before .put-wrong-index .ensures)
@@ -135,7 +135,7 @@ put-words-requires-8 : tie.Need-put-words-requires-8
 put-words-requires-8 c κs = search needs
 
 same-length-9 : tie.Need-same-length-9
-same-length-9 c = search needs
+same-length-9 c = c .before .before .put-words8 .kept .0
 
 returns-9 : tie.Need-returns-9
 returns-9 c = rw (c .before .before .before .before .before .enum-told8 .given .1) (c .before .before .put-words8 .ensures)
@@ -150,7 +150,7 @@ put-words-requires-9 : tie.Need-put-words-requires-9
 put-words-requires-9 c κs = search needs
 
 same-length-10 : tie.Need-same-length-10
-same-length-10 c = search needs
+same-length-10 c = c .before .before .put-words9 .kept .0
 
 returns-10 : tie.Need-returns-10
 returns-10 c = rw (c .before .before .before .before .before .enum-told9 .given .1) (c .before .before .put-words9 .ensures)
@@ -165,7 +165,7 @@ put-words-requires-10 : tie.Need-put-words-requires-10
 put-words-requires-10 c κs = search needs
 
 same-length-11 : tie.Need-same-length-11
-same-length-11 c = search needs
+same-length-11 c = c .before .before .put-words10 .kept .0
 
 returns-11 : tie.Need-returns-11
 returns-11 c = rw (c .before .before .before .before .before .enum-told10 .given .1) (c .before .before .put-words10 .ensures)
