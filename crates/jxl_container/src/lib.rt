@@ -46,6 +46,25 @@ fn anew(left: BytesLeft) -> BytesLeft
     }
 }
 
+// The same refusal, made anew for the same reason.
+fn same_refusal(refusal: BoxRefusal) -> BoxRefusal
+    ensures { λ r. ⌜ r ≡ refusal ⌝ }
+{
+    match refusal {
+        BoxRefusal::ShortSize => BoxRefusal::ShortSize,
+        BoxRefusal::ExtendedSize => BoxRefusal::ExtendedSize,
+        BoxRefusal::SecondJxlc => BoxRefusal::SecondJxlc,
+        BoxRefusal::JxlcAfterJxlp => BoxRefusal::JxlcAfterJxlp,
+        BoxRefusal::JxlpTooSmall => BoxRefusal::JxlpTooSmall,
+        BoxRefusal::JxlpAfterJxlc => BoxRefusal::JxlpAfterJxlc,
+        BoxRefusal::JxlpAfterLast => BoxRefusal::JxlpAfterLast,
+        BoxRefusal::WrongIndex { found, expected } => BoxRefusal::WrongIndex { found, expected },
+        BoxRefusal::BrobTooSmall => BoxRefusal::BrobTooSmall,
+        BoxRefusal::ImpossibleRecord => BoxRefusal::ImpossibleRecord,
+        BoxRefusal::ValidationFailed => BoxRefusal::ValidationFailed,
+    }
+}
+
 // The same record, made anew field by field, for the same reason.
 fn same(p: ContainerParser) -> ContainerParser
     ensures { λ r. ⌜ r ≡ p ⌝ }
@@ -86,7 +105,8 @@ fn same(p: ContainerParser) -> ContainerParser
             ContainerParser::at(anew, jxlp)
         }
         DetectState::Refused { kind, refusal } => {
-            ContainerParser::at(DetectState::Refused { kind, refusal }, jxlp)
+            let r = same_refusal(refusal);
+            ContainerParser::at(DetectState::Refused { kind, refusal: r }, jxlp)
         }
     }
 }

@@ -100,7 +100,7 @@ kept-index i l s = go (ltb (length s) 4) refl (eqb (be32 s 0 % 0x80000000) i) re
         (kept-ahead 4 s (codeStep (row (be32 s 0) i) K.Container (less l 4) (toEnd l) (drop 4 s)) h (kept-code (row (be32 s 0) i) K.Container (less l 4) (toEnd l) (drop 4 s)))
     go false e false f =
         let h = ltb-false (length s) 4 e in
-        rw (index-wrong i l s h (eqb-false (be32 s 0 % 0x80000000) i f)) (kept-refuse (WrongIndex i (be32 s 0 % 0x80000000)) (at (S.WaitingJxlpIndex l) (Jxlp i)) 4 (length s) h)
+        rw (index-wrong i l s h (eqb-false (be32 s 0 % 0x80000000) i f)) (kept-refuse (WrongIndex (be32 s 0 % 0x80000000) i) (at (S.WaitingJxlpIndex l) (Jxlp i)) 4 (length s) h)
 
 kept-inner : (j : JxlpIndexState) (l : BytesLeft) (s : List ℕ) → Kept (length s) (innerStep j l s)
 kept-inner j l s = go (ltb (length s) 4) refl (reserved (be32 s 0)) refl

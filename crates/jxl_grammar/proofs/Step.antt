@@ -71,7 +71,7 @@ module _ (i : ℕ) (l : BytesLeft) (s : List ℕ) where
   unfolding indexStep
   index-right h e = rw (le-ltb (length s) 4 h, eq-eqb (be32 s 0 % 0x80000000) i e)
 
-  pub index-wrong : 4 ≤ length s → (be32 s 0 % 0x80000000 ≡ i → ⊥) → indexStep i l s ≡ refuse (WrongIndex i (be32 s 0 % 0x80000000)) (at (S.WaitingJxlpIndex l) (Jxlp i)) 4
+  pub index-wrong : 4 ≤ length s → (be32 s 0 % 0x80000000 ≡ i → ⊥) → indexStep i l s ≡ refuse (WrongIndex (be32 s 0 % 0x80000000) i) (at (S.WaitingJxlpIndex l) (Jxlp i)) 4
   unfolding indexStep
   index-wrong h n = rw (le-ltb (length s) 4 h, ne-eqb (be32 s 0 % 0x80000000) i n)
 
@@ -116,7 +116,7 @@ module _ (s : List ℕ) (n : ℕ) where
       (ahead-ahead n 4 (codeStep (row (be32 s n) i) K.Container (less l 4) (toEnd l) (drop (n + 4) s)))
 
   pub far-index-wrong : (i : ℕ) (l : BytesLeft) → 4 ≤ length s - n → (be32 s n % 0x80000000 ≡ i → ⊥)
-      → ahead n (indexStep i l (drop n s)) ≡ refuse (WrongIndex i (be32 s n % 0x80000000)) (at (S.WaitingJxlpIndex l) (Jxlp i)) (n + 4)
+      → ahead n (indexStep i l (drop n s)) ≡ refuse (WrongIndex (be32 s n % 0x80000000) i) (at (S.WaitingJxlpIndex l) (Jxlp i)) (n + 4)
   far-index-wrong i l h d =
       rw (index-wrong i l (drop n s) (omega (arith, rest-is)) (λ e. d (sym (ap (λ (w : ℕ). w % 0x80000000) (be32-drop s n)) ∙ e)), be32-drop s n)
 

@@ -106,7 +106,7 @@ indexed i l at s next =
       | true ↦ ends want at
       | false ↦ elim (eqb (be32 s 0 % 0x80000000) i) [
         | true ↦ code (toEnd l) (less l 4) (at + 4) (drop 4 s) (next (row (leb 0x80000000 (be32 s 0)) i))
-        | false ↦ ends (refused (WrongIndex i (be32 s 0 % 0x80000000))) (at + 4)
+        | false ↦ ends (refused (WrongIndex (be32 s 0 % 0x80000000) i)) (at + 4)
       ]
     ]
 

@@ -93,7 +93,7 @@ indexStep i l s =
     if (ltb (length s) 4) (wants (at (S.WaitingJxlpIndex l) (Jxlp i)) 0)
     (if (eqb (be32 s 0 % 0x80000000) i)
     (ahead 4 (codeStep (row (be32 s 0) i) K.Container (less l 4) (toEnd l) (drop 4 s)))
-    (refuse (WrongIndex i (be32 s 0 % 0x80000000)) (at (S.WaitingJxlpIndex l) (Jxlp i)) 4))
+    (refuse (WrongIndex (be32 s 0 % 0x80000000) i) (at (S.WaitingJxlpIndex l) (Jxlp i)) 4))
 
 -- a `brob` payload: 4 bytes of inner type (WANT below). A reserved type: refusal 2, the 4 bytes consumed.
 -- Else AUX_START: the inner type, whether compressed, whether to the end

@@ -26,8 +26,8 @@ impl StopWord {
             BoxRefusal::JxlpAfterJxlc => StopWord::Refused1,
             BoxRefusal::JxlpAfterLast => StopWord::Refused1,
             BoxRefusal::WrongIndex {
-                expected: _,
                 found: _,
+                expected: _,
             } => StopWord::Refused1,
             BoxRefusal::BrobTooSmall => StopWord::Refused1,
             BoxRefusal::ImpossibleRecord => StopWord::Refused1,

@@ -1,4 +1,5 @@
 pub mod Text
+pub mod Merging
 pub mod Turning
 pub mod Goes
 pub mod Inside

@@ -4,13 +4,16 @@ use Prim.Native.Nat.{ℕ, _+_, _-_, _^_, min}
 use lib.Dec.{leb}
 use lib.ListN.{length}
 use Rattle.jxl_headers.specs.Bytes.{if}
+use Rattle.jxl_cuts.specs.Feeding.{Stop as Stops}
+use Rattle.jxl_refusals.specs.Refusals.{Why, inDocument01}
 use Rattle.jxl_grammar.specs.Step.{Told, shows, wants, refuses, stepOf}
 use Rattle.jxl_events.specs.Event.{shifted}
 use Rattle.jxl_record.specs.declared.ContainerParser.{ContainerParser}
 use Rattle.jxl_events.specs.declared.ParseEvent.{ParseEvent}
 use Rattle.jxl_grammar.specs.Grammar.{Listing, file}
 use Rattle.jxl_grammar.specs.Grammar as G
-use Rattle.jxl_lines.specs.Lines.{printed, text}
+use Rattle.jxl_grammar.specs.Naming.{fileBy}
+use Rattle.jxl_lines.specs.Lines.{refusedWord, printed, text}
 use Rattle.jxl_lines.specs.Pasting.{pasted}
 use Rattle.jxl_lines.specs.Putting.{Outcome, leaves}
 use Rattle.jxl_lines.specs.declared.Line.the-variants as L
@@ -35,6 +38,15 @@ listingText l = texts (l .events) ++ text (L.Stopped (stopOf (l .stop)) (l .cons
 -- the listing of a whole file, which the grammar gives
 unfoldable pub fileText : List ℕ → List ℕ
 fileText s = listingText (file s)
+
+-- document 01's listing of a file, which the grammar gives by document 01's naming of refusals: the stop by its number there
+abbrev pub stopIn01 : Stops Why → StopWord
+stopIn01 G.want = S.Want
+stopIn01 (G.refused w) = refusedWord w
+
+abbrev pub fileTextIn01 : List ℕ → List ℕ
+fileTextIn01 s =
+    texts (fileBy inDocument01 s .events) ++ text (L.Stopped (stopIn01 (fileBy inDocument01 s .stop)) (fileBy inDocument01 s .consumed))
 
 -- what comes next of an input that stands at `at`: an event with its place in the file, or the stop; and the record and the place then
 abbrev pub nextIn : ℕ → Told → AfterStep

@@ -15,11 +15,15 @@ use Rattle.jxl_joiner.specs.declared.MaybeEvent.{MaybeEvent}
 use Rattle.jxl_joiner.specs.declared.MaybeEvent.the-variants.{None, Some}
 use Rattle.jxl_lines.specs.Putting.{leaves}
 use Rattle.jxl_lines.specs.declared.StopWord.{StopWord}
-use Rattle.jxl_list_rules.specs.Listed.{stopOf, texts, listOf}
+use Rattle.jxl_list_rules.specs.Listed.{stopOf, texts, fileText, fileTextIn01, listOf}
 use Rattle.jxl_list_rules.specs.Turned.{Turned, turnFrom, turnOf, Told}
 use Rattle.jxl_list_rules.specs.Row.{goesOn, rowOf}
 use Rattle.jxl_list_rules.specs.Way.{wayOf, Leads}
 use Rattle.jxl_list_rules.specs.declared.TurnEnd.the-variants as TurnEnd
+
+-- merges back: what is printed of a file is document 01's listing, `refused1` for each of the ten
+abbrev pub ListingMergesBack : Type 0
+ListingMergesBack = (s : List ℕ) → fileText s ≡ fileTextIn01 s
 
 -- events of an input that stands at `base` in the file
 abbrev pub allShifted : ℕ → List ParseEvent → List ParseEvent

@@ -215,7 +215,11 @@ pub fn index_step(i: u32, left: BytesLeft, s: &[u8], at: usize) -> StepResult
             at + 4,
         );
     }
-    refuse(BoxRefusal::WrongIndex { expected: i, found }, waiting, at + 4)
+    let refusal = BoxRefusal::WrongIndex {
+        found,
+        expected: i as u64,
+    };
+    refuse(refusal, waiting, at + 4)
 }
 
 // Whether the type may not stand inside a `brob`.

@@ -19,7 +19,7 @@ ruleOf (refusal n values) =
     (if (eqb n 14) JxlpTooSmall
     (if (eqb n 15) JxlpAfterJxlc
     (if (eqb n 16) JxlpAfterLast
-    (if (eqb n 17) (WrongIndex (getD values 0 0) (getD values 1 0))
+    (if (eqb n 17) (WrongIndex (getD values 1 0) (getD values 0 0))
     (if (eqb n 18) BrobTooSmall
     (if (eqb n 19) ImpossibleRecord ValidationFailed)))))))))
 
@@ -31,7 +31,7 @@ again JxlcAfterJxlp = refl
 again JxlpTooSmall = refl
 again JxlpAfterJxlc = refl
 again JxlpAfterLast = refl
-again (WrongIndex e f) = refl
+again (WrongIndex found expected) = refl
 again BrobTooSmall = refl
 again ImpossibleRecord = refl
 again ValidationFailed = refl

@@ -18,8 +18,9 @@ pub enum BoxRefusal {
     JxlpAfterJxlc,
     // A `jxlp` behind the one marked as the last.
     JxlpAfterLast,
-    // Another `jxlp` index than the next one. The one expected is at most 2^31; the one found has 31 bits.
-    WrongIndex { expected: u32, found: u32 },
+    // Another `jxlp` index than the next one: the one found has 31 bits, the one expected is at most 2^31. In this order and with these
+    // widths they share no byte of a record with a field of another width, which would make every step slower.
+    WrongIndex { found: u32, expected: u64 },
     // A `brob` whose payload has no room for its inner type.
     BrobTooSmall,
     // A record that no file leads to.
@@ -42,8 +43,8 @@ impl BoxRefusal {
             BoxRefusal::JxlpAfterJxlc => 15,
             BoxRefusal::JxlpAfterLast => 16,
             BoxRefusal::WrongIndex {
-                expected: _,
                 found: _,
+                expected: _,
             } => 17,
             BoxRefusal::BrobTooSmall => 18,
             BoxRefusal::ImpossibleRecord => 19,

@@ -1,16 +1,19 @@
--- The starred worked pieces of document 01, boxes and fields: one table under one statement about the definitions, computed once.
+-- The starred worked pieces of document 01, boxes and fields, and the smallest file of each rule that document 02, P2, tells apart: one table
+-- under one statement about the definitions, computed once.
 use mathlib.Core.Path.{_≡_, refl}
 use mathlib.Core.Bool.{true, false}
 use mathlib.Core.List.{List, [], _∷_, _++_}
 use Prim.Native.Nat.{ℕ, _-_, _^_}
 use lib.Ieee.{binary32, ofBits}
-use Rattle.jxl_headers.specs.Refusals.{refusal}
+use Rattle.jxl_cuts.specs.Feeding.{Stop}
+use Rattle.jxl_refusals.specs.Refusals.{Why, refusal, why}
 use Rattle.jxl_headers.specs.Signature.{signatureOf, containerSig}
 use Rattle.jxl_headers.specs.Header.{headerOf, extended}
 use Rattle.jxl_record.specs.declared.BitstreamKind.the-variants as K
 use Rattle.jxl_events.specs.declared.ParseEvent.{ParseEvent}
 use Rattle.jxl_events.specs.declared.ParseEvent.the-variants as E
-use Rattle.jxl_grammar.specs.Grammar.{Listing, Stop, want, refused, file, boxes}
+use Rattle.jxl_grammar.specs.Grammar.{ListingBy, want, refused, file, boxes}
+use Rattle.jxl_grammar.specs.Naming.{fileBy}
 use Rattle.jxl_bit_rules.specs.Answer.{gives}
 use Rattle.jxl_bit_rules.specs.Bits.{number, bits}
 use Rattle.jxl_bit_rules.specs.Readers.{begin, part}
@@ -42,12 +45,12 @@ exifType = 0x45786966
 abbrev pub S : List ℕ → List ℕ
 S s = containerSig ++ s
 
-abbrev pub says : List ParseEvent → ℕ → Stop → Listing
+abbrev pub says : List ParseEvent → ℕ → Stop Why → ListingBy Why
 says es n w = record { events = es; consumed = n; stop = w }
 
 pub data Piece : Type 0 where
-  -- a file and its listing
-  lists : List ℕ → Listing → Piece
+  -- a file and its listing, a refusal by its number and values
+  lists : List ℕ → ListingBy Why → Piece
   -- bytes, the four choices, the value, and the position then
   readsU32 : List ℕ → List U32Specifier → ℕ → ℕ → Piece
   readsU64 : List ℕ → ℕ → ℕ → Piece
@@ -56,7 +59,7 @@ pub data Piece : Type 0 where
 
 abbrev pub Holds : List Piece → Type 0
 Holds [] = Unit {0}
-Holds (lists s l ∷ ps) = (file s ≡ l) × Holds ps
+Holds (lists s l ∷ ps) = (fileBy why s ≡ l) × Holds ps
 Holds (readsU32 s d v at ∷ ps) = (u32 d s 0 ≡ gives v at) × Holds ps
 Holds (readsU64 s v at ∷ ps) = (u64 s 0 ≡ gives v at) × Holds ps
 Holds (readsF16 s b ∷ ps) = (f16 s 0 ≡ gives (ofBits binary32 b) 16) × Holds ps
@@ -73,15 +76,29 @@ table =
     -- S, 00 00 00 08 jxlc: KIND only, 20 consumed. One 00 more: an empty CODESTREAM, then WANT with 1 unread
     ∷ lists (S (header 8 jxlc)) (says (E.BitstreamKind K.Container ∷ []) 20 want)
     ∷ lists (S (header 8 jxlc ++ (0 ∷ []))) (says (E.BitstreamKind K.Container ∷ E.Codestream 20 0 ∷ []) 20 want)
-    -- S, 00 00 00 07 Exif: refusal 1, 12 consumed. Size 8: AUX_START
-    ∷ lists (S (header 7 exif)) (says (E.BitstreamKind K.Container ∷ []) 12 (refused (refusal 1 [])))
+    -- S, 00 00 00 07 Exif: short size, 12 consumed. Size 8: AUX_START
+    ∷ lists (S (header 7 exif)) (says (E.BitstreamKind K.Container ∷ []) 12 (refused (refusal 10 [])))
     ∷ lists (S (header 8 exif)) (says (E.BitstreamKind K.Container ∷ E.AuxBoxStart exifType false false ∷ []) 20 want)
-    -- S, jxlp of size 11: refusal 1, 20 consumed. Size 12, first index 1: refusal 1, 24 consumed. Index 80 00 00 00: accepted, last
-    ∷ lists (S (header 11 jxlp)) (says (E.BitstreamKind K.Container ∷ []) 20 (refused (refusal 1 [])))
-    ∷ lists (S (header 12 jxlp ++ (0 ∷ 0 ∷ 0 ∷ 1 ∷ []))) (says (E.BitstreamKind K.Container ∷ []) 24 (refused (refusal 1 [])))
+    -- extended size 15: refused once its 16 bytes are there, none of them consumed
+    ∷ lists (S (header 1 exif ++ (0 ∷ 0 ∷ 0 ∷ 0 ∷ 0 ∷ 0 ∷ 0 ∷ 15 ∷ []))) (says (E.BitstreamKind K.Container ∷ []) 12 (refused (refusal 11 [])))
+    -- jxlc of size 8, jxlc: the second one, behind its header
+    ∷ lists (S (header 8 jxlc ++ header 8 jxlc)) (says (E.BitstreamKind K.Container ∷ E.Codestream 20 0 ∷ []) 28 (refused (refusal 12 [])))
+    -- jxlp of size 12 with index 0, jxlc
+    ∷ lists (S (header 12 jxlp ++ (0 ∷ 0 ∷ 0 ∷ 0 ∷ header 8 jxlc))) (says (E.BitstreamKind K.Container ∷ E.Codestream 24 0 ∷ []) 32 (refused (refusal 13 [])))
+    -- S, jxlp of size 11: too small, 20 consumed; also where it may not stand, after a jxlc or the last jxlp
+    ∷ lists (S (header 11 jxlp)) (says (E.BitstreamKind K.Container ∷ []) 20 (refused (refusal 14 [])))
+    ∷ lists (S (header 8 jxlc ++ header 11 jxlp)) (says (E.BitstreamKind K.Container ∷ E.Codestream 20 0 ∷ []) 28 (refused (refusal 14 [])))
+    ∷ lists (S (header 12 jxlp ++ (0x80 ∷ 0 ∷ 0 ∷ 0 ∷ header 11 jxlp))) (says (E.BitstreamKind K.Container ∷ E.Codestream 24 0 ∷ []) 32 (refused (refusal 14 [])))
+    -- jxlc of size 8, jxlp
+    ∷ lists (S (header 8 jxlc ++ header 12 jxlp)) (says (E.BitstreamKind K.Container ∷ E.Codestream 20 0 ∷ []) 28 (refused (refusal 15 [])))
+    -- index 80 00 00 00: accepted, last; a jxlp behind it is refused
     ∷ lists (S (header 12 jxlp ++ (0x80 ∷ 0 ∷ 0 ∷ 0 ∷ []))) (says (E.BitstreamKind K.Container ∷ []) 24 want)
-    ∷ lists (S (header 12 jxlp ++ (0x80 ∷ 0 ∷ 0 ∷ 0 ∷ header 12 jxlp))) (says (E.BitstreamKind K.Container ∷ E.Codestream 24 0 ∷ []) 32 (refused (refusal 1 [])))
-    -- brob of size 12 with jxlc inside: refusal 2, 24 consumed. With Exif: AUX_START
+    ∷ lists (S (header 12 jxlp ++ (0x80 ∷ 0 ∷ 0 ∷ 0 ∷ header 12 jxlp))) (says (E.BitstreamKind K.Container ∷ E.Codestream 24 0 ∷ []) 32 (refused (refusal 16 [])))
+    -- size 12, first index 1: refused, 24 consumed, 0 expected and 1 found. The last bit does not count as found
+    ∷ lists (S (header 12 jxlp ++ (0 ∷ 0 ∷ 0 ∷ 1 ∷ []))) (says (E.BitstreamKind K.Container ∷ []) 24 (refused (refusal 17 (0 ∷ 1 ∷ []))))
+    ∷ lists (S (header 12 jxlp ++ (0 ∷ 0 ∷ 0 ∷ 0 ∷ header 12 jxlp ++ (0x80 ∷ 0 ∷ 0 ∷ 3 ∷ [])))) (says (E.BitstreamKind K.Container ∷ E.Codestream 24 0 ∷ []) 36 (refused (refusal 17 (1 ∷ 3 ∷ []))))
+    -- brob of size 11: too small. Of size 12 with jxlc inside: refusal 2, 24 consumed. With Exif: AUX_START
+    ∷ lists (S (header 11 brob)) (says (E.BitstreamKind K.Container ∷ []) 20 (refused (refusal 18 [])))
     ∷ lists (S (header 12 brob ++ jxlc)) (says (E.BitstreamKind K.Container ∷ []) 24 (refused (refusal 2 [])))
     ∷ lists (S (header 12 brob ++ exif)) (says (E.BitstreamKind K.Container ∷ E.AuxBoxStart exifType true false ∷ []) 24 want)
     -- byte 32 hex, U32 of 1, 2 bits, 3 + 4 bits, 19 + 8 bits: 15
@@ -96,4 +113,4 @@ table =
 pub starred : Holds table
 unfolding file boxes signatureOf headerOf extended u32 u64 f16 begin part select anyWide chunks half number bits units magnitude pattern
 starred =
-    (refl, (refl, (refl, (refl, (refl, (refl, (refl, (refl, (refl, (refl, (refl, (refl, (refl, (refl, (refl, (refl, (refl, (refl, tt))))))))))))))))))
+    (refl, (refl, (refl, (refl, (refl, (refl, (refl, (refl, (refl, (refl, (refl, (refl, (refl, (refl, (refl, (refl, (refl, (refl, (refl, (refl, (refl, (refl, (refl, (refl, (refl, (refl, tt))))))))))))))))))))))))))

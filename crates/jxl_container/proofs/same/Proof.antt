@@ -54,6 +54,9 @@ at-requires-6 c κs = search needs
 enum-known-state-5 : tie.Need-enum-known-state-5
 enum-known-state-5 c = search needs
 
+same-refusal-requires : tie.Need-same-refusal-requires
+same-refusal-requires c κs = search needs
+
 at-requires-7 : tie.Need-at-requires-7
 at-requires-7 c κs = search needs
 
@@ -76,7 +79,7 @@ returns-6 : tie.Need-returns-6
 returns-6 c = rw (c .at6 .ensures, c .before .anew4 .ensures, c .before .before .before .state4 .given .1)
 
 returns-7 : tie.Need-returns-7
-returns-7 c = rw (c .at7 .ensures, c .before .before .state5 .given .1)
+returns-7 c = rw (c .at7 .ensures, c .before .same-refusal .ensures, c .before .before .before .state5 .given .1)
 
 pub same-spec : {M : Type 1} → statement M
 same-spec =
@@ -99,6 +102,7 @@ same-spec =
     anew-requires-4
     at-requires-6
     enum-known-state-5
+    same-refusal-requires
     at-requires-7
     returns
     returns-2
