@@ -73,7 +73,7 @@ mark w = letter w 3 + letter w 5
 
 -- the index found stands behind the 11 letters `jxlp index `; behind it and the 7 letters ` where ` the one expected
 abbrev indexBack : List ℕ → BoxRefusal
-indexBack w = WrongIndex (value 10 0 (word (drop 7 (others (drop 11 w))))) (value 10 0 (word (drop 11 w)))
+indexBack w = WrongIndex (value 10 0 (word (drop 11 w))) (value 10 0 (word (drop 7 (others (drop 11 w)))))
 
 abbrev back : List ℕ → BoxRefusal
 back w =
@@ -95,7 +95,7 @@ again JxlcAfterJxlp = refl
 again JxlpTooSmall = refl
 again JxlpAfterJxlc = refl
 again JxlpAfterLast = refl
-again (WrongIndex expected found) =
+again (WrongIndex found expected) =
     rw (others-back found, number-back found, number-back expected)
 again BrobTooSmall = refl
 again ImpossibleRecord = refl

@@ -25,8 +25,8 @@ digits-most (suc k) n h = go (ltb n 10) refl (digits-most k (n / 10))
         let big = ltb-false n 10 e in
         omega (arith, decimal-longer n (omega arith), shorter (omega arith))
 
-pub wrong-index-size : (expected found : ℕ) → length (text (WrongIndex expected found)) ≡ 31 + length (decimal found) + length (decimal expected)
-wrong-index-size expected found = simp length-append (omega arith)
+pub wrong-index-size : (found expected : ℕ) → length (text (WrongIndex found expected)) ≡ 31 + length (decimal found) + length (decimal expected)
+wrong-index-size found expected = simp length-append (omega arith)
 
 pub most-bytes : MostBytes
 most-bytes ShortSize h = omega arith
@@ -36,8 +36,8 @@ most-bytes JxlcAfterJxlp h = omega arith
 most-bytes JxlpTooSmall h = omega arith
 most-bytes JxlpAfterJxlc h = omega arith
 most-bytes JxlpAfterLast h = omega arith
-most-bytes (WrongIndex expected found) (h, g) =
-    omega (arith, wrong-index-size expected found, digits-most 9 expected (omega arith), digits-most 9 found (omega arith))
+most-bytes (WrongIndex found expected) (h, g) =
+    omega (arith, wrong-index-size found expected, digits-most 9 found (omega arith), digits-most 9 expected (omega arith))
 most-bytes BrobTooSmall h = omega arith
 most-bytes ImpossibleRecord h = omega arith
 most-bytes ValidationFailed h = omega arith

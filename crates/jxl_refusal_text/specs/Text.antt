@@ -66,12 +66,12 @@ text JxlcAfterJxlp = jxlcAfterJxlp
 text JxlpTooSmall = jxlpTooSmall
 text JxlpAfterJxlc = jxlpAfterJxlc
 text JxlpAfterLast = jxlpAfterLast
-text (WrongIndex expected found) = indexWord ++ (decimal found ++ (whereWord ++ (decimal expected ++ expectedWord)))
+text (WrongIndex found expected) = indexWord ++ (decimal found ++ (whereWord ++ (decimal expected ++ expectedWord)))
 text BrobTooSmall = brobTooSmall
 text ImpossibleRecord = impossibleRecord
 text ValidationFailed = validationFailed
 
--- the two indices fit 32 bits, as those of the code do
+-- the two indices fit 32 bits, as those of every file do: the one found has 31 bits, and the one expected is at most 2^31
 abbrev pub InRange : BoxRefusal → Type 0
 InRange ShortSize = Unit {0}
 InRange ExtendedSize = Unit {0}
@@ -80,7 +80,7 @@ InRange JxlcAfterJxlp = Unit {0}
 InRange JxlpTooSmall = Unit {0}
 InRange JxlpAfterJxlc = Unit {0}
 InRange JxlpAfterLast = Unit {0}
-InRange (WrongIndex expected found) = (expected < 2 ^ 32) × (found < 2 ^ 32)
+InRange (WrongIndex found expected) = (found < 2 ^ 32) × (expected < 2 ^ 32)
 InRange BrobTooSmall = Unit {0}
 InRange ImpossibleRecord = Unit {0}
 InRange ValidationFailed = Unit {0}

@@ -33,9 +33,9 @@ fn put_both(out: &mut [u8], at: usize, words: &[u8], n: usize) -> usize
 }
 
 // The text of a wrong index, for which there is room.
-fn write_wrong_index(out: &mut [u8], at: usize, expected: usize, found: usize) -> Put
-    requires { ⌜ at + length (text (BoxRefusal.WrongIndex expected found)) ≤ length (now out) ⌝ }
-    ensures { λ r. ⌜ leaves r (now (out .exit)) ≡ putOf (now (out .entry)) at (text (BoxRefusal.WrongIndex expected found)) ⌝ }
+fn write_wrong_index(out: &mut [u8], at: usize, found: usize, expected: usize) -> Put
+    requires { ⌜ at + length (text (BoxRefusal.WrongIndex found expected)) ≤ length (now out) ⌝ }
+    ensures { λ r. ⌜ leaves r (now (out .exit)) ≡ putOf (now (out .entry)) at (text (BoxRefusal.WrongIndex found expected)) ⌝ }
 {
     let a = put_both(out, at, b"jxlp index ", found);
     let b = put_both(out, a, b" where ", expected);
@@ -43,8 +43,8 @@ fn write_wrong_index(out: &mut [u8], at: usize, expected: usize, found: usize) -
 }
 
 // The text of a wrong index, if it fits.
-fn put_wrong_index(out: &mut [u8], at: usize, expected: usize, found: usize) -> Put
-    ensures { λ r. ⌜ leaves r (now (out .exit)) ≡ putOf (now (out .entry)) at (text (BoxRefusal.WrongIndex expected found)) ⌝ }
+fn put_wrong_index(out: &mut [u8], at: usize, found: usize, expected: usize) -> Put
+    ensures { λ r. ⌜ leaves r (now (out .exit)) ≡ putOf (now (out .entry)) at (text (BoxRefusal.WrongIndex found expected)) ⌝ }
 {
     // the words have 31 bytes
     let n = 31 + jxl_lengths::digits(found) + jxl_lengths::digits(expected);
@@ -54,7 +54,7 @@ fn put_wrong_index(out: &mut [u8], at: usize, expected: usize, found: usize) -> 
     if out.len() - at < n {
         return Put::NoRoom(n);
     }
-    write_wrong_index(out, at, expected, found)
+    write_wrong_index(out, at, found, expected)
 }
 
 // Puts the text at `at` if all of it fits there; otherwise the buffer stays as it was, and the text's length is told.
@@ -69,11 +69,11 @@ pub fn put_refusal(out: &mut [u8], at: usize, refusal: BoxRefusal) -> Put
         BoxRefusal::JxlpTooSmall => return put_words(out, at, b"jxlp too small for its index"),
         BoxRefusal::JxlpAfterJxlc => return put_words(out, at, b"jxlp after jxlc"),
         BoxRefusal::JxlpAfterLast => return put_words(out, at, b"jxlp after the last jxlp"),
-        BoxRefusal::WrongIndex { expected, found } => return put_wrong_index(
+        BoxRefusal::WrongIndex { found, expected } => return put_wrong_index(
             out,
             at,
-            expected as usize,
             found as usize,
+            expected as usize,
         ),
         BoxRefusal::BrobTooSmall => return put_words(out, at, b"brob too small for its type"),
         BoxRefusal::ImpossibleRecord => return put_words(out, at, b"impossible record"),

@@ -113,9 +113,6 @@ enum-known-refusal c = search needs
 cast-put-wrong-index : tie.Need-cast-put-wrong-index
 cast-put-wrong-index c = search needs
 
-cast-put-wrong-index-2 : tie.Need-cast-put-wrong-index-2
-cast-put-wrong-index-2 c = search needs
-
 put-wrong-index-requires : tie.Need-put-wrong-index-requires
 put-wrong-index-requires c κs = search needs
 
@@ -211,7 +208,6 @@ put-refusal-spec =
     returns-7
     enum-known-refusal
     cast-put-wrong-index
-    cast-put-wrong-index-2
     put-wrong-index-requires
     same-length-8
     returns-8

@@ -21,7 +21,7 @@ add-n-2 c = search needs
 returns : tie.Need-returns
 returns c =
     let a = c .before .before .before .before .args in
-    no-room _ _ _ (omega (arith, wrong-index-size (a .expected) (a .found))) (omega arith)
+    no-room _ _ _ (omega (arith, wrong-index-size (a .found) (a .expected))) (omega arith)
 
 sub-if2 : tie.Need-sub-if2
 sub-if2 c = search needs
@@ -29,12 +29,12 @@ sub-if2 c = search needs
 returns-2 : tie.Need-returns-2
 returns-2 c =
     let a = c .before .before .before .before .before .args in
-    no-room _ _ _ (omega (arith, wrong-index-size (a .expected) (a .found))) (omega arith)
+    no-room _ _ _ (omega (arith, wrong-index-size (a .found) (a .expected))) (omega arith)
 
 write-wrong-index-requires : tie.Need-write-wrong-index-requires
 write-wrong-index-requires c κs =
     let a = c .before .before .before .before .before .before .args in
-    omega (arith, wrong-index-size (a .expected) (a .found))
+    omega (arith, wrong-index-size (a .found) (a .expected))
 
 same-length : tie.Need-same-length
 same-length c = search needs

@@ -14,7 +14,7 @@ slice-aggregate-put-both c = search needs
 put-both-requires : tie.Need-put-both-requires
 put-both-requires c κs =
     let a = c .before .before .before .args in
-    omega (arith, wrong-index-size (a .expected) (a .found))
+    omega (arith, wrong-index-size (a .found) (a .expected))
 
 slice-aggregate-put-both-2 : tie.Need-slice-aggregate-put-both-2
 slice-aggregate-put-both-2 c = search needs
@@ -22,7 +22,7 @@ slice-aggregate-put-both-2 c = search needs
 put-both-requires-2 : tie.Need-put-both-requires-2
 put-both-requires-2 c κs =
     let a = c .before .before .before .before .before .before .before .before .args in
-    omega (arith, wrong-index-size (a .expected) (a .found))
+    omega (arith, wrong-index-size (a .found) (a .expected))
 
 slice-aggregate-put-words : tie.Need-slice-aggregate-put-words
 slice-aggregate-put-words c = search needs
@@ -38,7 +38,7 @@ returns c =
     let second = c .before .before .before .before .before .before .before in
     let first = second .before .before .before .before .before in
     let a = first .before .before .before .before .args in
-    put-last _ _ expectedWord (omega (arith, wrong-index-size (a .expected) (a .found))) (c .before .before .put-words .ensures)
+    put-last _ _ expectedWord (omega (arith, wrong-index-size (a .found) (a .expected))) (c .before .before .put-words .ensures)
     (simp append-assoc) (pasted-then (first .put-both .ensures) (second .put-both2 .ensures))
 
 pub write-wrong-index-spec : {M : Type 1} → statement M
