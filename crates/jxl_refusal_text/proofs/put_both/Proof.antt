@@ -1,27 +1,28 @@
+use mathlib.Core.Path.{_∙_}
 use native.Mathlib.Omega.{arith}
 use lib.ListN.{length-append}
 use denote.Ref.{now}
 use Rattle.jxl_lines.specs.Digits.{decimal}
 use Rattle.jxl_lines.proofs.Bytes.{pasted-then}
 use Rattle.jxl_refusal_text.proofs.Places.{put-there}
-use borrow.Author.Needs.{needs}
 use Rattle.jxl_refusal_text.proofs.put_both.Statement.{statement}
 use Rattle.jxl_refusal_text.proofs.put_both.Tie as tie
 
 put-words-requires : tie.Need-put-words-requires
-put-words-requires c κs = search needs
+put-words-requires c κs = tt
 
 place-requires : tie.Need-place-requires
-place-requires c κs = search needs
+place-requires c κs = tt
 
 put-number-requires : tie.Need-put-number-requires
-put-number-requires c κs = search needs
+put-number-requires c κs = tt
 
 place-requires-2 : tie.Need-place-requires-2
-place-requires-2 c κs = search needs
+place-requires-2 c κs = tt
 
 same-length : tie.Need-same-length
-same-length c = search needs
+same-length c =
+    c .before .before .before .put-number .kept .0 ∙ c .before .before .before .before .before .before .before .before .put-words .kept .0
 
 returns : tie.Need-returns
 returns c =

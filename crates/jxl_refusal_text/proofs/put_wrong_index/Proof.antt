@@ -1,4 +1,3 @@
-use mathlib.Core.Path.{_≡_}
 use native.Mathlib.Omega.{arith}
 use Rattle.jxl_lines.proofs.Putting.{no-room}
 use Rattle.jxl_refusal_text.proofs.Sizes.{wrong-index-size}
@@ -7,13 +6,13 @@ use Rattle.jxl_refusal_text.proofs.put_wrong_index.Statement.{statement
 use Rattle.jxl_refusal_text.proofs.put_wrong_index.Tie as tie
 
 digits-requires : tie.Need-digits-requires
-digits-requires c κs = search needs
+digits-requires c κs = tt
 
 add-n : tie.Need-add-n
 add-n c = search needs
 
 digits-requires-2 : tie.Need-digits-requires-2
-digits-requires-2 c κs = search needs
+digits-requires-2 c κs = tt
 
 add-n-2 : tie.Need-add-n-2
 add-n-2 c = search needs
@@ -37,10 +36,10 @@ write-wrong-index-requires c κs =
     omega (arith, wrong-index-size (a .found) (a .expected))
 
 same-length : tie.Need-same-length
-same-length c = search needs
+same-length c = c .before .before .write-wrong-index .kept .0
 
 returns-3 : tie.Need-returns-3
-returns-3 c = search needs
+returns-3 c = c .before .before .write-wrong-index .ensures
 
 pub put-wrong-index-spec : {M : Type 1} → statement M
 put-wrong-index-spec =

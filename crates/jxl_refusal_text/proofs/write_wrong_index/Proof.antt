@@ -1,15 +1,15 @@
+use mathlib.Core.Path.{refl, _∙_}
 use mathlib.Core.List.{append-assoc}
 use native.Mathlib.Omega.{arith}
 use Rattle.jxl_lines.proofs.Bytes.{pasted-then}
 use Rattle.jxl_refusal_text.specs.Text.{expectedWord}
 use Rattle.jxl_refusal_text.proofs.Places.{put-last}
 use Rattle.jxl_refusal_text.proofs.Sizes.{wrong-index-size}
-use borrow.Author.Needs.{needs}
 use Rattle.jxl_refusal_text.proofs.write_wrong_index.Statement.{statement}
 use Rattle.jxl_refusal_text.proofs.write_wrong_index.Tie as tie
 
 slice-aggregate-put-both : tie.Need-slice-aggregate-put-both
-slice-aggregate-put-both c = search needs
+slice-aggregate-put-both c = refl
 
 put-both-requires : tie.Need-put-both-requires
 put-both-requires c κs =
@@ -17,7 +17,7 @@ put-both-requires c κs =
     omega (arith, wrong-index-size (a .found) (a .expected))
 
 slice-aggregate-put-both-2 : tie.Need-slice-aggregate-put-both-2
-slice-aggregate-put-both-2 c = search needs
+slice-aggregate-put-both-2 c = refl
 
 put-both-requires-2 : tie.Need-put-both-requires-2
 put-both-requires-2 c κs =
@@ -25,13 +25,15 @@ put-both-requires-2 c κs =
     omega (arith, wrong-index-size (a .found) (a .expected))
 
 slice-aggregate-put-words : tie.Need-slice-aggregate-put-words
-slice-aggregate-put-words c = search needs
+slice-aggregate-put-words c = refl
 
 put-words-requires : tie.Need-put-words-requires
-put-words-requires c κs = search needs
+put-words-requires c κs = tt
 
 same-length : tie.Need-same-length
-same-length c = search needs
+same-length c =
+    let second = c .before .before .before .before .before .before .before in
+    c .before .before .put-words .kept .0 ∙ second .put-both2 .kept .0 ∙ second .before .before .before .before .before .put-both .kept .0
 
 returns : tie.Need-returns
 returns c =
