@@ -1,9 +1,9 @@
 -- Words put where there is room for them: all are put, and the answer is the place behind them.
-use mathlib.Core.Path.{_≡_, refl, sym, ap, _∙_}
+use mathlib.Core.Path.{_≡_, refl, ap, _∙_}
 use mathlib.Core.List.{List, _++_}
 use Prim.Native.Nat.{ℕ, _+_, _≤_}
 use lib.ListN.{length}
-use Rattle.jxl_lines.specs.Pasting.{pasted, Pasted}
+use Rattle.jxl_lines.specs.Pasting.{Pasted}
 use Rattle.jxl_lines.specs.Putting.{leaves, putOf}
 use Rattle.jxl_lines.specs.declared.Put.{Put}
 use Rattle.jxl_lines.specs.declared.Put.the-variants.{Written}

@@ -1,4 +1,4 @@
--- The texts of refusals, for a fault log: one to each rule that breaks. A wrong index tells the two numbers, decimal. No line feed ends a text.
+-- The texts of refusals, for a fault log: one for each rule. A wrong index tells both numbers, decimal. No line feed ends a text.
 use mathlib.Core.List.{List, [], _∷_, _++_}
 use Prim.Native.Nat.{ℕ, _^_, _<_}
 use Rattle.jxl_refusals.specs.declared.BoxRefusal.{BoxRefusal}
@@ -71,7 +71,7 @@ text BrobTooSmall = brobTooSmall
 text ImpossibleRecord = impossibleRecord
 text ValidationFailed = validationFailed
 
--- the two indices fit 32 bits, as those of every file do: the one found has 31 bits, and the one expected is at most 2^31
+-- the two indices fit 32 bits: of a file the one found has 31 bits, and the one expected is at most 2^31 (jxl_refusals)
 abbrev pub InRange : BoxRefusal → Type 0
 InRange ShortSize = Unit {0}
 InRange ExtendedSize = Unit {0}
