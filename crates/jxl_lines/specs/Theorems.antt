@@ -36,6 +36,10 @@ KeptWithoutRoom = (d : List ℕ) (at : ℕ) (w : List ℕ) → length d < at + l
 abbrev pub OneRefused : Type 0
 OneRefused = (w : BoxRefusal) → OneAnswer (λ r. r ≡ printed w)
 
--- the same of a line put: the answer, and the buffer that it leaves
+-- the same of any bytes put: the answer, and the buffer that it leaves
+abbrev pub OnePutBytes : Type 0
+OnePutBytes = (d : List ℕ) (at : ℕ) (w : List ℕ) → OneAnswerAndBuffer (λ r b. leaves r b ≡ putOf d at w)
+
+-- and so of a line put
 abbrev pub OnePut : Type 0
 OnePut = (d : List ℕ) (at : ℕ) (l : Line) → OneAnswerAndBuffer (λ r b. leaves r b ≡ putOf d at (text l))

@@ -142,3 +142,30 @@ pub fn put_line(out: &mut [u8], at: usize, line: Line) -> Put
     }
     Put::Written(write_line(out, at, line))
 }
+
+// Puts the words at `at` if all of them fit there; otherwise the buffer stays as it was.
+pub fn put_words(out: &mut [u8], at: usize, words: &[u8]) -> Put
+    ensures { λ r. ⌜ leaves r (now (out .exit)) ≡ putOf (now (out .entry)) at (now (words .entry)) ⌝ }
+{
+    if out.len() < at {
+        return Put::NoRoom(words.len());
+    }
+    if out.len() - at < words.len() {
+        return Put::NoRoom(words.len());
+    }
+    Put::Written(field::copy_in(out, at, words))
+}
+
+// Puts the decimal digits of `n` at `at` if all of them fit there; otherwise the buffer stays as it was.
+pub fn put_number(out: &mut [u8], at: usize, n: usize) -> Put
+    ensures { λ r. ⌜ leaves r (now (out .exit)) ≡ putOf (now (out .entry)) at (decimal n) ⌝ }
+{
+    let digits = jxl_lengths::digits(n);
+    if out.len() < at {
+        return Put::NoRoom(digits);
+    }
+    if out.len() - at < digits {
+        return Put::NoRoom(digits);
+    }
+    Put::Written(field::put_decimal(out, at, n))
+}

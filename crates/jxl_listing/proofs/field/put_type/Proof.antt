@@ -1,124 +1,30 @@
-use mathlib.Core.List.{[], _∷_}
-use Rattle.jxl_lines.proofs.Bytes.{pasted-as, pasted-stored}
-use Rattle.jxl_lines.proofs.Numbers.{type-glyphs}
+use mathlib.Core.Path.{_≡_, refl, ap}
+use Prim.Native.Nat.{_/_, _%_}
 use native.Mathlib.Omega.{arith}
-use lib.ListN.{length-set}
+use Rattle.jxl_lines.specs.Digits.{glyph}
+use Rattle.jxl_lines.proofs.Bytes.{pasted-as, pasted-then}
+use Rattle.jxl_lines.proofs.Numbers.{type-glyphs}
 use borrow.Author.Needs.{needs}
 use Rattle.jxl_listing.proofs.field.put_type.Statement.{statement}
 use Rattle.jxl_listing.proofs.field.put_type.Tie as tie
 
-glyph-requires : tie.Need-glyph-requires
-glyph-requires c κs = search needs
+put-four-requires : tie.Need-put-four-requires
+put-four-requires c κs = search needs
 
-slice-write-out : tie.Need-slice-write-out
-slice-write-out c = search needs
-
-glyph-requires-2 : tie.Need-glyph-requires-2
-glyph-requires-2 c κs = search needs
-
-add-out : tie.Need-add-out
-add-out c = search needs
-
-slice-write-out-2 : tie.Need-slice-write-out-2
-slice-write-out-2 c = simp length-set (omega arith)
-
-glyph-requires-3 : tie.Need-glyph-requires-3
-glyph-requires-3 c κs = search needs
-
-add-out-2 : tie.Need-add-out-2
-add-out-2 c = search needs
-
-slice-write-out-3 : tie.Need-slice-write-out-3
-slice-write-out-3 c = simp length-set (omega arith)
-
-glyph-requires-4 : tie.Need-glyph-requires-4
-glyph-requires-4 c κs = search needs
-
-add-out-3 : tie.Need-add-out-3
-add-out-3 c = search needs
-
-slice-write-out-4 : tie.Need-slice-write-out-4
-slice-write-out-4 c = simp length-set (omega arith)
-
-glyph-requires-5 : tie.Need-glyph-requires-5
-glyph-requires-5 c κs = search needs
-
-add-out-4 : tie.Need-add-out-4
-add-out-4 c = search needs
-
-slice-write-out-5 : tie.Need-slice-write-out-5
-slice-write-out-5 c = simp length-set (omega arith)
-
-glyph-requires-6 : tie.Need-glyph-requires-6
-glyph-requires-6 c κs = search needs
-
-add-out-5 : tie.Need-add-out-5
-add-out-5 c = search needs
-
-slice-write-out-6 : tie.Need-slice-write-out-6
-slice-write-out-6 c = simp length-set (omega arith)
-
-glyph-requires-7 : tie.Need-glyph-requires-7
-glyph-requires-7 c κs = search needs
-
-add-out-6 : tie.Need-add-out-6
-add-out-6 c = search needs
-
-slice-write-out-7 : tie.Need-slice-write-out-7
-slice-write-out-7 c = simp length-set (omega arith)
-
-glyph-requires-8 : tie.Need-glyph-requires-8
-glyph-requires-8 c κs = search needs
-
-add-out-7 : tie.Need-add-out-7
-add-out-7 c = search needs
-
-slice-write-out-8 : tie.Need-slice-write-out-8
-slice-write-out-8 c = simp length-set (omega arith)
-
-add-result : tie.Need-add-result
-add-result c = search needs
+put-four-requires-2 : tie.Need-put-four-requires-2
+put-four-requires-2 c κs = search needs
 
 same-length : tie.Need-same-length
-same-length c = simp length-set
+same-length c = search needs
 
 returns : tie.Need-returns
 returns c =
-    let start = c .before .before .before .before .before .before .before .before .before in
-    pasted-as
-    (type-glyphs (start .args .ty) (c .before .before .before .before .before .before .before .glyph .ensures) (c .before .before .before .before .before .before .glyph2 .ensures) (c .before .before .before .before .before .glyph3 .ensures)
-    (c .before .before .before .before .glyph4 .ensures) (c .before .before .before .glyph5 .ensures) (c .before .before .glyph6 .ensures) (c .before .glyph7 .ensures) (c .glyph8 .ensures))
-    (pasted-stored _ _ (c .before .before .before .before .before .before .before .glyph .result)
-    (c .before .before .before .before .before .before .glyph2 .result ∷ c .before .before .before .before .before .glyph3 .result ∷ c .before .before .before .before .glyph4 .result ∷ c .before .before .before .glyph5 .result ∷ c .before .before .glyph6 .result ∷ c .before .glyph7 .result ∷ c .glyph8 .result ∷ [])
-    (start .pre))
+    let t = c .before .before .before .before .before .before .before .before .before .args .ty in
+    let first : t / 0x1_0000 / 0x1000 % 16 ≡ t / 0x1000_0000 % 16 = omega arith in
+    let second : t / 0x1_0000 / 0x100 % 16 ≡ t / 0x100_0000 % 16 = omega arith in
+    let third : t / 0x1_0000 / 0x10 % 16 ≡ t / 0x10_0000 % 16 = omega arith in
+    pasted-as (type-glyphs t (ap glyph first) (ap glyph second) (ap glyph third) refl refl refl refl refl)
+    (pasted-then (c .before .before .before .before .before .before .put-four .ensures) (c .before .before .put-four2 .ensures))
 
 pub put-type-spec : {M : Type 1} → statement M
-put-type-spec =
-    tie.close
-    (tie.spec
-    glyph-requires
-    slice-write-out
-    glyph-requires-2
-    add-out
-    slice-write-out-2
-    glyph-requires-3
-    add-out-2
-    slice-write-out-3
-    glyph-requires-4
-    add-out-3
-    slice-write-out-4
-    glyph-requires-5
-    add-out-4
-    slice-write-out-5
-    glyph-requires-6
-    add-out-5
-    slice-write-out-6
-    glyph-requires-7
-    add-out-6
-    slice-write-out-7
-    glyph-requires-8
-    add-out-7
-    slice-write-out-8
-    add-result
-    same-length
-    returns)
+put-type-spec = tie.close (tie.spec put-four-requires put-four-requires-2 same-length returns)

@@ -1,0 +1,4 @@
+pub mod Sizes
+pub mod Different
+pub mod Places
+pub mod Unique
