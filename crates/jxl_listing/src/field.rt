@@ -42,26 +42,19 @@ fn glyph(n: usize) -> u8
     if d < 10 { 48 + d } else { 87 + d }
 }
 
-// The last four hex digits of `n`.
-fn put_four(out: &mut [u8], at: usize, n: usize) -> usize
-    requires { ⌜ at + 4 ≤ length (now out) ⌝ }
-    ensures { λ r. ⌜ Pasted (now (out .entry)) at (Digits.glyph (n / 0x1000 % 16) ∷ Digits.glyph (n / 0x100 % 16) ∷ Digits.glyph (n / 0x10 % 16) ∷ Digits.glyph (n % 16) ∷ []) (now (out .exit)) r ⌝ }
-{
-    out[at] = glyph(n / 0x1000);
-    out[at + 1] = glyph(n / 0x100);
-    out[at + 2] = glyph(n / 0x10);
-    out[at + 3] = glyph(n);
-    at + 4
-}
-
-// A type.
+// A type, its last digit first.
 pub(crate) fn put_type(out: &mut [u8], at: usize, ty: u32) -> usize
     requires { ⌜ at + 8 ≤ length (now out) ⌝ }
     ensures { λ r. ⌜ Pasted (now (out .entry)) at (Digits.hex8 ty) (now (out .exit)) r ⌝ }
 {
-    let n = ty as usize;
-    let a = put_four(out, at, n / 0x1_0000);
-    put_four(out, a, n)
+    let mut rest = ty as usize;
+    let mut o = at + 8;
+    while at < o {
+        o -= 1;
+        out[o] = glyph(rest);
+        rest /= 16;
+    }
+    at + 8
 }
 
 // The last two decimal digits of `n`.

@@ -1,3 +1,4 @@
+use mathlib.Core.Path.{refl, _∙_}
 use native.Mathlib.Omega.{arith}
 use Rattle.jxl_lines.proofs.Bytes.{pasted-then}
 use Rattle.jxl_lines.proofs.Numbers.{type-length}
@@ -7,7 +8,7 @@ use Rattle.jxl_listing.proofs.data_line.Statement.{statement}
 use Rattle.jxl_listing.proofs.data_line.Tie as tie
 
 slice-aggregate-copy-in : tie.Need-slice-aggregate-copy-in
-slice-aggregate-copy-in c = search needs
+slice-aggregate-copy-in c = refl
 
 copy-in-requires : tie.Need-copy-in-requires
 copy-in-requires c κs = search needs
@@ -21,7 +22,7 @@ put-span-requires c κs =
     omega (arith, data-size (a .ty) (a .place) (a .len), span-size (a .place) (a .len), type-length (a .ty))
 
 same-length : tie.Need-same-length
-same-length c = search needs
+same-length c = c .before .before .put-span .kept .0 ∙ c .before .before .before .before .before .before .put-type .kept .0 ∙ c .before .before .before .before .before .before .before .before .before .before .copy-in .kept .0
 
 returns : tie.Need-returns
 returns c =

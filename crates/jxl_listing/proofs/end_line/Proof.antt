@@ -1,4 +1,4 @@
-use mathlib.Core.Path.{_∙_}
+use mathlib.Core.Path.{_∙_, refl}
 use mathlib.Core.List.{[]}
 use native.Mathlib.Omega.{arith}
 use lib.ListN.{length-set}
@@ -10,7 +10,7 @@ use Rattle.jxl_listing.proofs.end_line.Statement.{statement}
 use Rattle.jxl_listing.proofs.end_line.Tie as tie
 
 slice-aggregate-copy-in : tie.Need-slice-aggregate-copy-in
-slice-aggregate-copy-in c = search needs
+slice-aggregate-copy-in c = refl
 
 copy-in-requires : tie.Need-copy-in-requires
 copy-in-requires c κs = search needs

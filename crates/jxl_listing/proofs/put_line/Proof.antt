@@ -29,7 +29,7 @@ write-line-requires c κs =
     (c .before .if2 .came)
 
 same-length : tie.Need-same-length
-same-length c = search needs
+same-length c = c .before .before .write-line .kept .0
 
 returns-2 : tie.Need-returns-2
 returns-2 c = room (c .before .before .write-line .ensures)
