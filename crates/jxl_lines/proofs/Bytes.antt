@@ -1,10 +1,10 @@
 -- Bytes put one behind the other.
 use mathlib.Core.Path.{_≡_, refl, sym, ap, subst, _∙_}
 use mathlib.Core.List.{List, [], _∷_, _++_, append-assoc}
-use Prim.Native.Nat.{ℕ, _+_, _≤_, _<_}
+use Prim.Native.Nat.{ℕ, _+_, _≤_}
 use native.Mathlib.Omega.{arith}
 use lib.ListN.{length, take, drop, set, length-append, length-drop}
-use lib.Seq.{take-length, take-at, drop-append-add, drop-drop, length-take-le, take-set-le, sets, sets-eq, paste}
+use lib.Seq.{take-length, take-at, drop-append-add, drop-drop, length-take-le, sets, sets-eq, paste}
 use Rattle.jxl_lines.specs.Pasting.{pasted, Pasted}
 
 -- a whole word copied in
@@ -50,20 +50,3 @@ pasted-then {d} {e} {f} {x} {y} {at} {r} {s} p q =
           ∙ ap (λ (l : List ℕ). l ++ drop (at + length (x ++ y)) d) (append-assoc (take at d) x y);
       next = simp length-append (omega arith);
     }
-
--- a word whose last byte stands there already
-pub pasted-before : (d : List ℕ) (at : ℕ) (x : List ℕ) (b : ℕ) → at + length x < length d
-    → pasted (set d (at + length x) b) at x ≡ pasted d at (x ++ (b ∷ []))
-pasted-before d at x b h =
-    let last = pasted-stored d (at + length x) b [] (omega arith) .bytes in
-    let front : at + length x ≡ length (take (at + length x) d) + 0 = omega (arith, length-take-le (at + length x) d (omega arith)) in
-    let behind : drop (at + length x) (set d (at + length x) b) ≡ b ∷ drop (at + length x + 1) d =
-    ap (λ (l : List ℕ). drop (at + length x) l) (last ∙ append-assoc (take (at + length x) d) (b ∷ []) (drop (at + length x + 1) d))
-    ∙ ap (λ (n : ℕ). drop n (take (at + length x) d ++ (b ∷ drop (at + length x + 1) d))) front
-    ∙ drop-append-add (take (at + length x) d) (b ∷ drop (at + length x + 1) d) 0 in
-    let both : at + length x + 1 ≡ at + length (x ++ (b ∷ [])) = omega (arith, length-append x (b ∷ [])) in
-    ap (λ (l : List ℕ). l ++ x ++ drop (at + length x) (set d (at + length x) b)) (take-set-le at d (at + length x) b (omega arith))
-    ∙ ap (λ (l : List ℕ). take at d ++ x ++ l) behind
-    ∙ sym (append-assoc (take at d ++ x) (b ∷ []) (drop (at + length x + 1) d))
-    ∙ ap (λ (l : List ℕ). l ++ drop (at + length x + 1) d) (append-assoc (take at d) x (b ∷ []))
-    ∙ ap (λ (n : ℕ). take at d ++ (x ++ (b ∷ [])) ++ drop n d) both

@@ -1,17 +1,15 @@
 -- Digits: the last one stands behind the others; a type has 8, and a number of 64 bits at most 20.
-use mathlib.Core.Path.{_≡_, refl, sym, ap, _∙_}
+use mathlib.Core.Path.{_≡_, refl, ap, _∙_}
 use mathlib.Core.Bool.{Bool, true, false}
 use mathlib.Core.List.{List, [], _∷_, _++_, append-assoc}
 use Prim.Native.Nat.{ℕ, zero, suc, _+_, _/_, _%_, _^_, _<_, _≤_}
 use native.Mathlib.Nat.{not-suc-le-zero, pow-suc}
 use native.Mathlib.Omega.{arith}
 use lib.Dec.{ltb}
-use lib.ListN.{length, set, length-append}
+use lib.ListN.{length, length-append}
 use borrow.Author.Tests.{lt-ltb, le-ltb, ltb-false}
 use Rattle.jxl_headers.specs.Bytes.{if}
 use Rattle.jxl_lines.specs.Digits.{glyph, hexDigits, hex8, decimalIn, decimal}
-use Rattle.jxl_lines.specs.Pasting.{pasted}
-use Rattle.jxl_lines.proofs.Bytes.{pasted-before}
 
 -- turns to spare change nothing
 spare : (k j n : ℕ) → n < k → n < j → decimalIn k n ≡ decimalIn j n
@@ -85,15 +83,6 @@ hex-length (suc k) n = simp (length-append, hex-length k) (omega arith)
 pub type-length : (t : ℕ) → length (hex8 t) ≡ 8
 unfolding hex8
 type-length t = hex-length 8 t
-
--- the last hex digit, stored before the others
-pub hex-before : (d : List ℕ) (at k n : ℕ) {b : ℕ} → b ≡ glyph (n % 16) → at + k < length d
-    → pasted (set d (at + k) b) at (hexDigits k (n / 16)) ≡ pasted d at (hexDigits (suc k) n)
-hex-before d at k n {b} last h =
-    let size = hex-length k (n / 16) in
-    ap (λ (j : ℕ). pasted (set d (at + j) b) at (hexDigits k (n / 16))) (sym size)
-    ∙ pasted-before d at (hexDigits k (n / 16)) b (omega arith)
-    ∙ ap (λ (g : ℕ). pasted d at (hexDigits k (n / 16) ++ (g ∷ []))) last
 
 -- the eight characters of a type
 pub type-glyphs : (t : ℕ) {a b c d e f g h : ℕ} → a ≡ glyph (t / 0x1000_0000 % 16) → b ≡ glyph (t / 0x100_0000 % 16) → c ≡ glyph (t / 0x10_0000 % 16)

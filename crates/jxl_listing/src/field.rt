@@ -42,18 +42,20 @@ fn glyph(n: usize) -> u8
     if d < 10 { 48 + d } else { 87 + d }
 }
 
-// A type, its last digit first.
+// A type.
 pub(crate) fn put_type(out: &mut [u8], at: usize, ty: u32) -> usize
     requires { ⌜ at + 8 ≤ length (now out) ⌝ }
     ensures { λ r. ⌜ Pasted (now (out .entry)) at (Digits.hex8 ty) (now (out .exit)) r ⌝ }
 {
-    let mut rest = ty as usize;
-    let mut o = at + 8;
-    while at < o {
-        o -= 1;
-        out[o] = glyph(rest);
-        rest /= 16;
-    }
+    let n = ty as usize;
+    out[at] = glyph(n / 0x1000_0000);
+    out[at + 1] = glyph(n / 0x100_0000);
+    out[at + 2] = glyph(n / 0x10_0000);
+    out[at + 3] = glyph(n / 0x1_0000);
+    out[at + 4] = glyph(n / 0x1000);
+    out[at + 5] = glyph(n / 0x100);
+    out[at + 6] = glyph(n / 0x10);
+    out[at + 7] = glyph(n);
     at + 8
 }
 

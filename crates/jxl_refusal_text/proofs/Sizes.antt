@@ -1,4 +1,4 @@
--- A text has at most 51 bytes: 31 of words and two numbers of 32 bits, which have at most 10 digits each.
+-- A text has at most 61 bytes: 31 of words, a number of 32 bits, which has at most 10 digits, and one of 64, which has at most 20.
 use mathlib.Core.Path.{_≡_, refl, ap}
 use mathlib.Core.Bool.{Bool, true, false}
 use Prim.Native.Nat.{ℕ, zero, suc, _+_, _/_, _^_, _<_, _≤_}
@@ -9,7 +9,7 @@ use lib.ListN.{length, length-append}
 use borrow.Author.Tests.{ltb-true, ltb-false}
 use Rattle.jxl_refusals.specs.declared.BoxRefusal.the-variants.{ShortSize, ExtendedSize, SecondJxlc, JxlcAfterJxlp, JxlpTooSmall, JxlpAfterJxlc, JxlpAfterLast, WrongIndex, BrobTooSmall, ImpossibleRecord, ValidationFailed}
 use Rattle.jxl_lines.specs.Digits.{decimal}
-use Rattle.jxl_lines.proofs.Numbers.{decimal-small, decimal-longer}
+use Rattle.jxl_lines.proofs.Numbers.{decimal-small, decimal-longer, decimal-most}
 use Rattle.jxl_refusal_text.specs.Text.{text}
 use Rattle.jxl_refusal_text.specs.Theorems.{MostBytes}
 
@@ -37,7 +37,7 @@ most-bytes JxlpTooSmall h = omega arith
 most-bytes JxlpAfterJxlc h = omega arith
 most-bytes JxlpAfterLast h = omega arith
 most-bytes (WrongIndex found expected) (h, g) =
-    omega (arith, wrong-index-size found expected, digits-most 9 found (omega arith), digits-most 9 expected (omega arith))
+    omega (arith, wrong-index-size found expected, digits-most 9 found (omega arith), decimal-most expected g)
 most-bytes BrobTooSmall h = omega arith
 most-bytes ImpossibleRecord h = omega arith
 most-bytes ValidationFailed h = omega arith

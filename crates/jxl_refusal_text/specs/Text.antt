@@ -71,7 +71,7 @@ text BrobTooSmall = brobTooSmall
 text ImpossibleRecord = impossibleRecord
 text ValidationFailed = validationFailed
 
--- the two indices fit 32 bits: of a file the one found has 31 bits, and the one expected is at most 2^31 (jxl_refusals)
+-- the index found fits 32 bits and the one expected 64, as those of the code do
 abbrev pub InRange : BoxRefusal → Type 0
 InRange ShortSize = Unit {0}
 InRange ExtendedSize = Unit {0}
@@ -80,7 +80,7 @@ InRange JxlcAfterJxlp = Unit {0}
 InRange JxlpTooSmall = Unit {0}
 InRange JxlpAfterJxlc = Unit {0}
 InRange JxlpAfterLast = Unit {0}
-InRange (WrongIndex found expected) = (found < 2 ^ 32) × (expected < 2 ^ 32)
+InRange (WrongIndex found expected) = (found < 2 ^ 32) × (expected < 2 ^ 64)
 InRange BrobTooSmall = Unit {0}
 InRange ImpossibleRecord = Unit {0}
 InRange ValidationFailed = Unit {0}

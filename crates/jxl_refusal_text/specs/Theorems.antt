@@ -8,9 +8,9 @@ use Rattle.jxl_refusals.specs.declared.BoxRefusal.{BoxRefusal}
 use Rattle.jxl_lines.specs.Putting.{leaves, putOf}
 use Rattle.jxl_refusal_text.specs.Text.{text, InRange}
 
--- a text has at most 51 bytes
+-- a text has at most 61 bytes
 abbrev pub MostBytes : Type 0
-MostBytes = (r : BoxRefusal) → InRange r → length (text r) ≤ 51
+MostBytes = (r : BoxRefusal) → InRange r → length (text r) ≤ 61
 
 -- two different refusals never have the same text
 abbrev pub NoTwoAlike : Type 0

@@ -1,94 +1,124 @@
--- The loop's invariant: with the digits of what is left before it, the buffer is what it is to be.
-use mathlib.Core.Path.{_≡_, refl, ap, _∙_}
-use mathlib.Core.List.{[]}
-use Prim.Native.Nat.{ℕ, suc, _+_, _-_, _/_, _≤_}
+use mathlib.Core.List.{[], _∷_}
+use Rattle.jxl_lines.proofs.Bytes.{pasted-as, pasted-stored}
+use Rattle.jxl_lines.proofs.Numbers.{type-glyphs}
 use native.Mathlib.Omega.{arith}
-use lib.ListN.{length, set, length-set}
-use lib.Seq.{paste-zero}
-use denote.Ref.{now}
-use Rattle.jxl_lines.specs.Digits.{hexDigits, hex8}
-use Rattle.jxl_lines.specs.Pasting.{pasted}
-use Rattle.jxl_lines.proofs.Bytes.{pasted-whole}
-use Rattle.jxl_lines.proofs.Numbers.{hex-before, type-length}
+use lib.ListN.{length-set}
+use borrow.Author.Needs.{needs}
 use Rattle.jxl_listing.proofs.field.put_type.Statement.{statement}
 use Rattle.jxl_listing.proofs.field.put_type.Tie as tie
 
-abbrev Inv-loop : tie.InvT-loop
-Inv-loop out₀ at ty rest₀ o₀ out rest o =
-    (at ≤ o) × (o ≤ at + 8) × (length out ≡ length out₀) × (pasted out at (hexDigits (o - at) rest) ≡ pasted out₀ at (hex8 ty))
-
-abbrev μ-loop : tie.MeasureT-loop
-μ-loop out₀ at ty rest₀ o₀ out rest o = o
-
-add-o : tie.Need-add-o Inv-loop μ-loop
-add-o c = omega arith
-
-loop-holds : tie.Need-loop-holds Inv-loop μ-loop
-unfolding hex8
-loop-holds c =
-    let a = c .before .args in
-    let eight : a .at + 8 - a .at ≡ 8 = omega arith in
-    (omega arith, omega arith, refl, ap (λ (k : ℕ). pasted (now (a .out)) (a .at) (hexDigits k (a .ty))) eight)
-
-sub-o : tie.Need-sub-o Inv-loop μ-loop
-sub-o c = omega arith
-
-glyph-requires : tie.Need-glyph-requires Inv-loop μ-loop
+glyph-requires : tie.Need-glyph-requires
 glyph-requires c κs = tt
 
-slice-write-out : tie.Need-slice-write-out Inv-loop μ-loop
+slice-write-out : tie.Need-slice-write-out
 slice-write-out c = omega arith
 
-loop-less : tie.Need-loop-less Inv-loop μ-loop
-loop-less c = omega arith
+glyph-requires-2 : tie.Need-glyph-requires-2
+glyph-requires-2 c κs = tt
 
-loop-again : tie.Need-loop-again Inv-loop μ-loop
-loop-again c =
-    let a = c .before .before .before .before .args in
-    let l = c .before .before .loop in
-    let k = l .o - 1 - a .at in
-    let here : l .o - 1 ≡ a .at + k = omega arith in
-    let more : suc k ≡ l .o - a .at = omega arith in (
-      omega arith,
-      omega arith,
-      simp length-set (l .inv .2),
-      ap (λ (i : ℕ). pasted (set (l .out) i (c .glyph .result)) (a .at) (hexDigits k (l .rest / 16))) here
-          ∙ hex-before (l .out) (a .at) k (l .rest) (c .glyph .ensures) (omega arith)
-          ∙ ap (λ (i : ℕ). pasted (l .out) (a .at) (hexDigits i (l .rest))) more ∙ l .inv .3,
-    )
+add-out : tie.Need-add-out
+add-out c = omega arith
 
-add-result : tie.Need-add-result Inv-loop μ-loop
+slice-write-out-2 : tie.Need-slice-write-out-2
+slice-write-out-2 c = simp length-set (omega arith)
+
+glyph-requires-3 : tie.Need-glyph-requires-3
+glyph-requires-3 c κs = tt
+
+add-out-2 : tie.Need-add-out-2
+add-out-2 c = omega arith
+
+slice-write-out-3 : tie.Need-slice-write-out-3
+slice-write-out-3 c = simp length-set (omega arith)
+
+glyph-requires-4 : tie.Need-glyph-requires-4
+glyph-requires-4 c κs = tt
+
+add-out-3 : tie.Need-add-out-3
+add-out-3 c = omega arith
+
+slice-write-out-4 : tie.Need-slice-write-out-4
+slice-write-out-4 c = simp length-set (omega arith)
+
+glyph-requires-5 : tie.Need-glyph-requires-5
+glyph-requires-5 c κs = tt
+
+add-out-4 : tie.Need-add-out-4
+add-out-4 c = omega arith
+
+slice-write-out-5 : tie.Need-slice-write-out-5
+slice-write-out-5 c = simp length-set (omega arith)
+
+glyph-requires-6 : tie.Need-glyph-requires-6
+glyph-requires-6 c κs = tt
+
+add-out-5 : tie.Need-add-out-5
+add-out-5 c = omega arith
+
+slice-write-out-6 : tie.Need-slice-write-out-6
+slice-write-out-6 c = simp length-set (omega arith)
+
+glyph-requires-7 : tie.Need-glyph-requires-7
+glyph-requires-7 c κs = tt
+
+add-out-6 : tie.Need-add-out-6
+add-out-6 c = omega arith
+
+slice-write-out-7 : tie.Need-slice-write-out-7
+slice-write-out-7 c = simp length-set (omega arith)
+
+glyph-requires-8 : tie.Need-glyph-requires-8
+glyph-requires-8 c κs = tt
+
+add-out-7 : tie.Need-add-out-7
+add-out-7 c = omega arith
+
+slice-write-out-8 : tie.Need-slice-write-out-8
+slice-write-out-8 c = simp length-set (omega arith)
+
+add-result : tie.Need-add-result
 add-result c = omega arith
 
-same-length : tie.Need-same-length Inv-loop μ-loop
-same-length c = c .before .loop .inv .2
+same-length : tie.Need-same-length
+same-length c = simp length-set
 
-returns : tie.Need-returns Inv-loop μ-loop
+returns : tie.Need-returns
 returns c =
-    let a = c .before .before .before .args in
-    let l = c .before .loop in
-    let none : 0 ≡ l .o - a .at = omega arith in
-    record {
-      room = omega (arith, type-length (a .ty));
-      bytes =
-          paste-zero (l .out) (a .at) [] ∙ pasted-whole (l .out) (a .at) []
-          ∙ ap (λ (i : ℕ). pasted (l .out) (a .at) (hexDigits i (l .rest))) none ∙ l .inv .3;
-      next = omega (arith, type-length (a .ty));
-    }
+    let start = c .before .before .before .before .before .before .before .before .before in
+    pasted-as
+    (type-glyphs (start .args .ty) (c .before .before .before .before .before .before .before .glyph .ensures) (c .before .before .before .before .before .before .glyph2 .ensures) (c .before .before .before .before .before .glyph3 .ensures)
+    (c .before .before .before .before .glyph4 .ensures) (c .before .before .before .glyph5 .ensures) (c .before .before .glyph6 .ensures) (c .before .glyph7 .ensures) (c .glyph8 .ensures))
+    (pasted-stored _ _ (c .before .before .before .before .before .before .before .glyph .result)
+    (c .before .before .before .before .before .before .glyph2 .result ∷ c .before .before .before .before .before .glyph3 .result ∷ c .before .before .before .before .glyph4 .result ∷ c .before .before .before .glyph5 .result ∷ c .before .before .glyph6 .result ∷ c .before .glyph7 .result ∷ c .glyph8 .result ∷ [])
+    (start .pre))
 
 pub put-type-spec : {M : Type 1} → statement M
 put-type-spec =
     tie.close
     (tie.spec
-    Inv-loop
-    μ-loop
-    add-o
-    loop-holds
-    sub-o
     glyph-requires
     slice-write-out
-    loop-less
-    loop-again
+    glyph-requires-2
+    add-out
+    slice-write-out-2
+    glyph-requires-3
+    add-out-2
+    slice-write-out-3
+    glyph-requires-4
+    add-out-3
+    slice-write-out-4
+    glyph-requires-5
+    add-out-4
+    slice-write-out-5
+    glyph-requires-6
+    add-out-5
+    slice-write-out-6
+    glyph-requires-7
+    add-out-6
+    slice-write-out-7
+    glyph-requires-8
+    add-out-7
+    slice-write-out-8
     add-result
     same-length
     returns)
