@@ -1,10 +1,25 @@
 // Runs pieces of the format: each line of the list is a record and a file in hex. The record is given nothing, then the file;
-// if it refuses, the file again and nothing. Prints a line for each: the answers, then the record's kind and codestream boxes.
+// if it refuses, the file again and nothing. Prints a line for each: the answers, with document 01's numbers, then the record's kind and
+// codestream boxes, and of a refused record which rule broke.
 use box_answers::feed;
 use jxl_record::ContainerParser;
+use jxl_record::DetectState;
 use jxl_record::JxlpIndexState;
+use jxl_refusal_text::Put;
+use jxl_refusals::BoxRefusal;
 
 mod record;
+
+// Prints a refusal's number, and its text as the library puts it.
+fn print_refusal(refusal: BoxRefusal) {
+    let mut text = [0u8; 64];
+    io::write_all(1, b" refusal ");
+    io::print_decimal(1, refusal.number() as u64);
+    io::write_all(1, b": ");
+    if let Put::Written(n) = jxl_refusal_text::put_refusal(&mut text, 0, refusal) {
+        io::write_all(1, jxl_slices::part(&text, 0, n));
+    }
+}
 
 // Prints the kind that the record tells on request, and its `jxlc` and `jxlp` boxes so far.
 fn print_record(parser: ContainerParser) {
@@ -13,16 +28,20 @@ fn print_record(parser: ContainerParser) {
     io::write_all(1, &kind);
     let jxlp = parser.jxlp;
     match jxlp {
-        JxlpIndexState::Initial => io::write_all(1, b" boxes none\n"),
-        JxlpIndexState::SingleJxlc => io::write_all(1, b" boxes jxlc\n"),
-        JxlpIndexState::JxlpFinished => io::write_all(1, b" boxes last\n"),
+        JxlpIndexState::Initial => io::write_all(1, b" boxes none"),
+        JxlpIndexState::SingleJxlc => io::write_all(1, b" boxes jxlc"),
+        JxlpIndexState::JxlpFinished => io::write_all(1, b" boxes last"),
         JxlpIndexState::Jxlp(i) => {
             io::write_all(1, b" boxes jxlp ");
-            io::print_decimal(1, i as u64);
-            io::write_all(1, b"\n")
+            io::print_decimal(1, i as u64)
         }
     }
     ;
+    let state = parser.state;
+    if let DetectState::Refused { kind: _, refusal } = state {
+        print_refusal(refusal);
+    }
+    io::write_all(1, b"\n");
 }
 
 // Feeds the file to the record, prints what that gives, and answers the feed behind it.

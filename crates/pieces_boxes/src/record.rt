@@ -27,7 +27,7 @@ fn boxes(line: &[u8], at: usize) -> JxlpIndexState {
 }
 
 // `s` is at the signature, `h` at a box header, `i` at a `jxlp` index, `t` at an inner type, `b` in an `Exif` box, `c` in a bare
-// codestream, any other letter refused by number 2.
+// codestream, `w` refused by index 3 where 2 was expected, any other letter refused by number 2.
 fn state(letter: u8, left: BytesLeft) -> DetectState {
     match letter {
         b's' => DetectState::WaitingSignature,
@@ -42,6 +42,13 @@ fn state(letter: u8, left: BytesLeft) -> DetectState {
             kind: BitstreamKind::BareCodestream,
             bytes_left: left,
             pending_no_more_aux_box: true,
+        },
+        b'w' => DetectState::Refused {
+            kind: BitstreamKind::Container,
+            refusal: BoxRefusal::WrongIndex {
+                found: 3,
+                expected: 2,
+            },
         },
         _ => DetectState::Refused {
             kind: BitstreamKind::Container,
