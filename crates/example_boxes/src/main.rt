@@ -59,7 +59,7 @@ fn feed(parser: ContainerParser, input: &[u8]) -> Fed
 
 // Prints the events of a container that comes in two packets, the first of `cut` bytes.
 fn list(file: &[u8], cut: usize) {
-    if !jxl_feed::is_container(file) {
+    if !jxl_file_kind::is_container(file) {
         return;
     }
     if cut <= file.len() {

@@ -1,4 +1,3 @@
-mod FirstStep
 pub mod Lending
 pub mod Methods
 pub mod Unique

@@ -1,12 +1,10 @@
 -- Two answers that meet a promise are equal.
 use mathlib.Core.Path.{_≡_, sym, _∙_}
 use Rattle.jxl_base.proofs.OneAnswer.{one-named}
-use Rattle.jxl_headers.specs.Bytes.{starts}
-use Rattle.jxl_headers.specs.Signature.{containerSig}
 use Rattle.jxl_record.specs.Record.{kindOf}
 use Rattle.jxl_record.specs.declared.ContainerParser.{ContainerParser}
-use Rattle.jxl_feed.specs.Fed.{kindOfFile, toldFed}
-use Rattle.jxl_feed.specs.Theorems.{OneFeedBytes, OneIsContainer, OneKindLent, OneKindOfFile}
+use Rattle.jxl_feed.specs.Fed.{toldFed}
+use Rattle.jxl_feed.specs.Theorems.{OneFeedBytes, OneKindLent}
 use Rattle.jxl_feed.specs.declared.Fed.{Fed}
 use Rattle.jxl_feed.specs.declared.Fed.the-variants as A
 
@@ -26,9 +24,3 @@ one-feed-bytes p s x y q r a b = told-one x y q r (a ∙ sym b)
 
 pub one-kind-lent : OneKindLent
 one-kind-lent p = one-named (kindOf p)
-
-pub one-kind-of-file : OneKindOfFile
-one-kind-of-file s = one-named (kindOfFile s)
-
-pub one-is-container : OneIsContainer
-one-is-container s = one-named (starts containerSig s)

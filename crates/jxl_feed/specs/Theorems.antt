@@ -3,12 +3,10 @@ use mathlib.Core.Path.{_≡_}
 use mathlib.Core.List.{List}
 use Prim.Native.Nat.{ℕ}
 use Rattle.jxl_base.specs.OneAnswer.{OneAnswer}
-use Rattle.jxl_headers.specs.Bytes.{starts}
-use Rattle.jxl_headers.specs.Signature.{containerSig}
 use Rattle.jxl_record.specs.Record.{kindOf}
 use Rattle.jxl_record.specs.declared.ContainerParser.{ContainerParser}
 use Rattle.jxl_grammar.specs.Step.{stepOf}
-use Rattle.jxl_feed.specs.Fed.{kindOfFile, toldFed}
+use Rattle.jxl_feed.specs.Fed.{toldFed}
 use Rattle.jxl_feed.specs.declared.Fed.{Fed}
 
 -- the answer, and the parser where it stands
@@ -19,9 +17,3 @@ OneFeedBytes =
 
 abbrev pub OneKindLent : Type 0
 OneKindLent = (p : ContainerParser) → OneAnswer (λ r. r ≡ kindOf p)
-
-abbrev pub OneKindOfFile : Type 0
-OneKindOfFile = (s : List ℕ) → OneAnswer (λ r. r ≡ kindOfFile s)
-
-abbrev pub OneIsContainer : Type 0
-OneIsContainer = (s : List ℕ) → OneAnswer (λ r. r ≡ starts containerSig s)

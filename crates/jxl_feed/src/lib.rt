@@ -5,11 +5,9 @@ use jxl_container::ContainerParser;
 use jxl_container::ParseEvent;
 use jxl_container::StepResult;
 ghost use mathlib.Core.Path.{_≡_};
-ghost use Rattle.jxl_headers.specs.Bytes.{starts};
-ghost use Rattle.jxl_headers.specs.Signature.{containerSig};
 ghost use Rattle.jxl_record.specs.Record as Record;
 ghost use Rattle.jxl_grammar.specs.Step.{stepOf};
-ghost use Rattle.jxl_feed.specs.Fed.{kindOfFile, toldFed};
+ghost use Rattle.jxl_feed.specs.Fed.{toldFed};
 
 // A step's answer without the parser.
 pub enum Fed {
@@ -75,25 +73,4 @@ pub fn kind(parser: &ContainerParser) -> BitstreamKind
 {
     let p = *parser;
     p.kind()
-}
-
-// The kind of a file by its first bytes: unknown where they are too few to tell. The parser lent here is this function's own.
-pub fn kind_of_file(input: &[u8]) -> BitstreamKind
-    ensures { λ r. ⌜ r ≡ kindOfFile (now (input .entry)) ⌝ }
-{
-    let mut parser = ContainerParser::new();
-    feed_bytes(&mut parser, input);
-    parser.kind()
-}
-
-// Whether a file starts with a container's signature. Nothing here is lent but the bytes, so its proof needs no walk.
-pub fn is_container(input: &[u8]) -> bool
-    ensures { λ r. ⌜ r ≡ starts containerSig (now (input .entry)) ⌝ }
-{
-    match kind_of_file(input) {
-        BitstreamKind::Container => true,
-        BitstreamKind::BareCodestream => false,
-        BitstreamKind::Invalid => false,
-        BitstreamKind::Unknown => false,
-    }
 }

@@ -2,9 +2,9 @@
 -- Assumes nothing.
 use mathlib.Core.Path.{sym, ap, _∙_}
 use borrow.Author.Needs.{needs}
-use Rattle.jxl_feed.proofs.FirstStep.{boxed, boxed-file}
-use Rattle.jxl_feed.proofs.is_container.Statement.{statement}
-use Rattle.jxl_feed.proofs.is_container.Tie as tie
+use Rattle.jxl_file_kind.proofs.FirstStep.{boxed, boxed-file}
+use Rattle.jxl_file_kind.proofs.is_container.Statement.{statement}
+use Rattle.jxl_file_kind.proofs.is_container.Tie as tie
 
 kind-of-file-requires : tie.Need-kind-of-file-requires
 kind-of-file-requires c κs = search needs

@@ -14,9 +14,10 @@ use Rattle.jxl_record.specs.declared.BitstreamKind.the-variants as K
 use Rattle.jxl_record.specs.declared.ContainerParser.{ContainerParser}
 use Rattle.jxl_record.specs.declared.JxlpIndexState.the-variants.{Initial}
 use Rattle.jxl_grammar.specs.Step.{Told, shows, wants, refuses, signatureStep, stepOf}
-use Rattle.jxl_feed.specs.Fed.{kindBy, kindOfFile, toldFed}
+use Rattle.jxl_feed.specs.Fed.{toldFed}
 use Rattle.jxl_feed.specs.declared.Fed.{Fed}
 use Rattle.jxl_feed.specs.declared.Fed.the-variants as A
+use Rattle.jxl_file_kind.specs.FileKind.{kindBy, kindOfFile}
 
 -- the parser that a step leaves
 abbrev nextOf : Told → ContainerParser

@@ -1,4 +1,4 @@
--- `jxl_feed::kind_of_file` meets its contract: a walk of its MIR, by hand, in three steps that Methods.antt and Lending.antt have: `news` makes the parser, `feeds` lends the local that holds it to `feed_bytes`, and `tells` reads the kind of what comes back.
+-- `jxl_file_kind::kind_of_file` meets its contract: a walk of its MIR, by hand, in three steps that Methods.antt and Lending.antt of jxl_feed have: `news` makes the parser, `feeds` lends the local that holds it to `feed_bytes`, and `tells` reads the kind of what comes back.
 -- Assumes nothing.
 use mathlib.Core.Path.{_≡_, refl, _∙_}
 use Prim.Native.Nat.{ℕ}
@@ -47,19 +47,19 @@ use Rattle.jxl_record.proofs.ContainerParser.new.Met as new-thm
 use Rattle.jxl_record.proofs.ContainerParser.kind.Symbol as tell-def
 use Rattle.jxl_record.proofs.ContainerParser.kind.Symbol.{name as #jxl-record·kind}
 use Rattle.jxl_record.proofs.ContainerParser.kind.Met as tell-thm
-use Rattle.jxl_feed.specs.Fed.{kindOfFile}
 use Rattle.jxl_feed.proofs.Fed as S
 use Rattle.jxl_feed.proofs.Fed.Laws as S′
-use Rattle.jxl_feed.proofs.FirstStep.{kind-after}
 use Rattle.jxl_feed.proofs.Lending.{Feed, Own, bytes, feeds}
 use Rattle.jxl_feed.proofs.Methods.{New, Tell, mach, news, tells}
 use Rattle.jxl_feed.proofs.feed_bytes.Symbol as feed-def
 use Rattle.jxl_feed.proofs.feed_bytes.Symbol.{name as #jxl-feed·feed-bytes}
 use Rattle.jxl_feed.proofs.feed_bytes.Met as feed-thm
-use Rattle.jxl_feed.proofs.kind_of_file.Key.{name as #jxl-feed·kind-of-file}
-use Rattle.jxl_feed.proofs.kind_of_file as this
-use Rattle.jxl_feed.proofs.kind_of_file.Statement as stated
-use Rattle.jxl_feed.proofs.kind_of_file.Code as code
+use Rattle.jxl_file_kind.specs.FileKind.{kindOfFile}
+use Rattle.jxl_file_kind.proofs.FirstStep.{kind-after}
+use Rattle.jxl_file_kind.proofs.kind_of_file.Key.{name as #jxl-file-kind·kind-of-file}
+use Rattle.jxl_file_kind.proofs.kind_of_file as this
+use Rattle.jxl_file_kind.proofs.kind_of_file.Statement as stated
+use Rattle.jxl_file_kind.proofs.kind_of_file.Code as code
 
 abbrev stayed : Stays (this.ended .signature .params) (this.ended .kept)
 stayed = (stay-none-slice (0 ∷ []) tt (plain (λ _. u8)) yes, tt)
@@ -114,7 +114,7 @@ pub kind-of-file-spec : {M : Type 1} → stated.statement M
 unfolding code.routine tablesOf
 kind-of-file-spec 𝓤 H 𝓜 𝓖 𝓡 =
     entered 𝓤 H (tripleOf 𝓤 H (𝓖 .A) this.signature (this.spec 𝓤 H (𝓖 .A) (𝓜 .mem) (𝓡 .run)))
-    (tables 𝓤 H 𝓜 𝓡 code.env .C) (tables 𝓤 H 𝓜 𝓡 code.env .Λ) #jxl-feed·kind-of-file code.function (code.unfolded 𝓤 H 𝓜 𝓡)
+    (tables 𝓤 H 𝓜 𝓡 code.env .C) (tables 𝓤 H 𝓜 𝓡 code.env .Λ) #jxl-file-kind·kind-of-file code.function (code.unfolded 𝓤 H 𝓜 𝓡)
     (meets 𝓤 H (𝓖 .A) (givenOf 𝓤 H 𝓜 𝓖) (𝓜 .mem) (𝓡 .run) (tablesOf 𝓤 H 𝓜 (tables 𝓤 H 𝓜 𝓡 code.env))
     (cited 𝓤 H (New 𝓤 H (𝓖 .A) (𝓜 .mem) (𝓡 .run)) 𝓜 𝓡 code.env #jxl-record·new new-def.routine code.calls-jxl-record·ContainerParser·new (new-thm.met 𝓤 H 𝓜 𝓖 𝓡))
     (cited 𝓤 H (Feed 𝓤 H (𝓖 .A) (𝓜 .mem) (𝓡 .run)) 𝓜 𝓡 code.env #jxl-feed·feed-bytes feed-def.routine code.calls-jxl-feed·feed-bytes (feed-thm.met 𝓤 H 𝓜 𝓖 𝓡))

@@ -1,0 +1,2 @@
+mod FirstStep
+pub mod Unique

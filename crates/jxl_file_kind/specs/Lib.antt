@@ -1,0 +1,2 @@
+pub mod FileKind
+pub mod Theorems
