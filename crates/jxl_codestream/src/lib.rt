@@ -9,6 +9,7 @@ use jxl_record::JxlpIndexState;
 ghost use mathlib.Core.Path.{_≡_};
 ghost use Prim.Native.Nat.{_+_, _^_, _<_};
 ghost use lib.ListN.{drop};
+ghost use Rattle.jxl_grammar.specs.Naming.{numbered};
 ghost use Rattle.jxl_grammar.specs.Step as Spec;
 ghost use Rattle.jxl_payloads.specs.Told.{told};
 
@@ -38,7 +39,7 @@ fn code_part(
     n: usize,
 ) -> StepResult
     requires { ⌜ at + n < 2 ^ 64 ⌝ }
-    ensures { λ r. ⌜ told r ≡ Spec.ahead at (Spec.codePart jxlp kind left n) ⌝ }
+    ensures { λ r. ⌜ told r ≡ numbered (Spec.ahead at (Spec.codePart jxlp kind left n)) ⌝ }
 {
     match left {
         BytesLeft::ToEnd => StepResult::Shown {
@@ -74,7 +75,7 @@ pub fn code_step(
     s: &[u8],
     at: usize,
 ) -> StepResult
-    ensures { λ r. ⌜ told r ≡ Spec.ahead at (Spec.codeStep jxlp kind left pending (drop at (now (s .entry)))) ⌝ }
+    ensures { λ r. ⌜ told r ≡ numbered (Spec.ahead at (Spec.codeStep jxlp kind left pending (drop at (now (s .entry))))) ⌝ }
 {
     if s.len() <= at {
         return StepResult::Want {

@@ -5,7 +5,8 @@ use Prim.Native.Nat.{ℕ}
 use Rattle.jxl_base.specs.OneAnswer.{OneAnswer}
 use Rattle.jxl_record.specs.declared.ContainerParser.{ContainerParser}
 use Rattle.jxl_grammar.specs.Step.{stepOf}
+use Rattle.jxl_grammar.specs.Naming.{numbered}
 use Rattle.jxl_payloads.specs.Told.{told}
 
 abbrev pub OneStep : Type 0
-OneStep = (p : ContainerParser) (s : List ℕ) → OneAnswer (λ r. told r ≡ stepOf p s)
+OneStep = (p : ContainerParser) (s : List ℕ) → OneAnswer (λ r. told r ≡ numbered (stepOf p s))

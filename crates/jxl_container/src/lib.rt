@@ -13,6 +13,7 @@ ghost use mathlib.Core.Bool.{false};
 ghost use lib.ListN.{drop};
 ghost use Rattle.jxl_headers.specs.Header.{headerOf};
 ghost use Rattle.jxl_record.specs.Record.{impossible, overIndex};
+ghost use Rattle.jxl_grammar.specs.Naming.{numbered};
 ghost use Rattle.jxl_grammar.specs.Step as Spec;
 ghost use Rattle.jxl_payloads.specs.Told.{told};
 
@@ -35,7 +36,7 @@ pub use jxl_refusals::BoxRefusal;
 
 // A refusal of the box whose header ends at `at`.
 fn refuse_box(refusal: BoxRefusal, jxlp: JxlpIndexState, at: usize) -> StepResult
-    ensures { λ r. ⌜ told r ≡ Spec.ahead at (Spec.refuseBox refusal jxlp) ⌝ }
+    ensures { λ r. ⌜ told r ≡ numbered (Spec.ahead at (Spec.refuseBox refusal jxlp)) ⌝ }
 {
     refuse(
         refusal,
@@ -46,7 +47,7 @@ fn refuse_box(refusal: BoxRefusal, jxlp: JxlpIndexState, at: usize) -> StepResul
 
 // A `jxlc` payload at `at`.
 fn jxlc_step(jxlp: JxlpIndexState, left: BytesLeft, s: &[u8], at: usize) -> StepResult
-    ensures { λ r. ⌜ told r ≡ Spec.ahead at (Spec.jxlcStep jxlp left (drop at (now (s .entry)))) ⌝ }
+    ensures { λ r. ⌜ told r ≡ numbered (Spec.ahead at (Spec.jxlcStep jxlp left (drop at (now (s .entry))))) ⌝ }
 {
     match jxlp {
         JxlpIndexState::Initial => code_step(
@@ -72,7 +73,7 @@ fn jxlc_step(jxlp: JxlpIndexState, left: BytesLeft, s: &[u8], at: usize) -> Step
 // A `jxlp` payload of 4 bytes or more at `at`: its place in the row.
 fn jxlp_next(jxlp: JxlpIndexState, left: BytesLeft, s: &[u8], at: usize) -> StepResult
     requires { ⌜ overIndex jxlp ≡ false ⌝ }
-    ensures { λ r. ⌜ told r ≡ Spec.ahead at (Spec.jxlpNext jxlp left (drop at (now (s .entry)))) ⌝ }
+    ensures { λ r. ⌜ told r ≡ numbered (Spec.ahead at (Spec.jxlpNext jxlp left (drop at (now (s .entry))))) ⌝ }
 {
     match jxlp {
         JxlpIndexState::Initial => index_step(0, left, s, at),
@@ -89,7 +90,7 @@ fn jxlp_next(jxlp: JxlpIndexState, left: BytesLeft, s: &[u8], at: usize) -> Step
 // A `jxlp` box behind its header, its size looked at before its place in the row.
 fn jxlp_step(jxlp: JxlpIndexState, left: BytesLeft, s: &[u8], at: usize) -> StepResult
     requires { ⌜ overIndex jxlp ≡ false ⌝ }
-    ensures { λ r. ⌜ told r ≡ Spec.ahead at (Spec.jxlpStep jxlp left (drop at (now (s .entry)))) ⌝ }
+    ensures { λ r. ⌜ told r ≡ numbered (Spec.ahead at (Spec.jxlpStep jxlp left (drop at (now (s .entry))))) ⌝ }
 {
     if left.under(4) {
         return refuse_box(BoxRefusal::JxlpTooSmall, jxlp, at);
@@ -99,7 +100,7 @@ fn jxlp_step(jxlp: JxlpIndexState, left: BytesLeft, s: &[u8], at: usize) -> Step
 
 // A `brob` box behind its header.
 fn brob_step(jxlp: JxlpIndexState, left: BytesLeft, s: &[u8], at: usize) -> StepResult
-    ensures { λ r. ⌜ told r ≡ Spec.ahead at (Spec.brobStep jxlp left (drop at (now (s .entry)))) ⌝ }
+    ensures { λ r. ⌜ told r ≡ numbered (Spec.ahead at (Spec.brobStep jxlp left (drop at (now (s .entry))))) ⌝ }
 {
     if left.under(4) {
         return refuse_box(BoxRefusal::BrobTooSmall, jxlp, at);
@@ -110,7 +111,7 @@ fn brob_step(jxlp: JxlpIndexState, left: BytesLeft, s: &[u8], at: usize) -> Step
 // A box of type `ty` behind its header.
 fn box_step(jxlp: JxlpIndexState, ty: u32, left: BytesLeft, s: &[u8], at: usize) -> StepResult
     requires { ⌜ overIndex jxlp ≡ false ⌝ }
-    ensures { λ r. ⌜ told r ≡ Spec.ahead at (Spec.boxStep jxlp ty left (drop at (now (s .entry)))) ⌝ }
+    ensures { λ r. ⌜ told r ≡ numbered (Spec.ahead at (Spec.boxStep jxlp ty left (drop at (now (s .entry))))) ⌝ }
 {
     if ty == box_header::CODESTREAM {
         return jxlc_step(jxlp, left, s, at);
@@ -141,7 +142,7 @@ fn box_step(jxlp: JxlpIndexState, ty: u32, left: BytesLeft, s: &[u8], at: usize)
 // At a box header.
 fn header_step(jxlp: JxlpIndexState, s: &[u8]) -> StepResult
     requires { ⌜ overIndex jxlp ≡ false ⌝ }
-    ensures { λ r. ⌜ told r ≡ Spec.headerStep jxlp (now (s .entry)) (headerOf (now (s .entry))) ⌝ }
+    ensures { λ r. ⌜ told r ≡ numbered (Spec.headerStep jxlp (now (s .entry)) (headerOf (now (s .entry)))) ⌝ }
 {
     let waiting = ContainerParser::at(DetectState::WaitingBoxHeader, jxlp);
     match box_header::parse_header(s) {
@@ -176,7 +177,7 @@ fn awaited(jxlp: JxlpIndexState) -> u32
 // A step by the record's state, with input there.
 fn state_step(p: ContainerParser, s: &[u8]) -> StepResult
     requires { ⌜ impossible p ≡ false ⌝ }
-    ensures { λ r. ⌜ told r ≡ Spec.stateStep (p .state) (p .jxlp) (now (s .entry)) ⌝ }
+    ensures { λ r. ⌜ told r ≡ numbered (Spec.stateStep (p .state) (p .jxlp) (now (s .entry))) ⌝ }
 {
     let state = p.state;
     let jxlp = p.jxlp;
@@ -204,7 +205,7 @@ fn state_step(p: ContainerParser, s: &[u8]) -> StepResult
 
 // One step of the parser on the input.
 pub fn step(parser: ContainerParser, input: &[u8]) -> StepResult
-    ensures { λ r. ⌜ told r ≡ Spec.stepOf parser (now (input .entry)) ⌝ }
+    ensures { λ r. ⌜ told r ≡ numbered (Spec.stepOf parser (now (input .entry))) ⌝ }
 {
     let p = jxl_anew::same(parser);
     if input.len() == 0 {

@@ -40,6 +40,7 @@ use Rattle.jxl_record.specs.declared.ContainerParser.{ContainerParser}
 use Rattle.jxl_record.proofs.ContainerParser as P
 use Rattle.jxl_record.proofs.ContainerParser.Laws as P′
 use Rattle.jxl_grammar.specs.Step.{stepOf}
+use Rattle.jxl_grammar.specs.Naming.{numbered}
 use Rattle.jxl_feed.specs.Fed.{toldFed}
 use Rattle.jxl_feed.specs.declared.Fed.{Fed}
 use Rattle.jxl_feed.proofs.Fed as S
@@ -102,7 +103,7 @@ module _ {M : Type 1} (𝓤 : URA M) (H : Heap 𝓤) (A : Atoms 𝓤) (W : Given
 module _ {M : Type 1} {𝓤 : URA M} {H : Heap 𝓤} {A : Atoms 𝓤} {K : Type 0} {W : Given 𝓤 H A} {Γ : List (Item 𝓤)} {E : Env 𝓤 H} {C : Calls 𝓤 H} {Λ : Loops 𝓤 H} {ends : Post 𝓤 H} {d : Place} {xs : List Operand} {rest : Code} where
   pub feeds : K → (at-mem : Memory → SProp 𝓤) (run : Routine → Fun 𝓤) → FmC 𝓤 H (W .laws) C → Triple 𝓤 (C #jxl-feed·feed-bytes) (Feed 𝓤 H A at-mem run)
       → (κ : Lft) (q : Share) (s : RefT (List ℕ)) (h : ContainerParser) (b : ℕ) → Is P.the-row h (mach h ∷ []) → ((i j k : Item 𝓤) → Opds K W (i ∷ j ∷ k ∷ Γ) E xs (vptr b 0 ∷ bytes s ∷ []))
-      → ((u : Val) (f : Fed) (p : ContainerParser) → toldFed f p ≡ stepOf h (now s) → Is S.the-row f (u ∷ []) → Is P.the-row p (mach p ∷ []) → Seq K W (‵ (Holds b p) ∷ (‵ (flft κ q) ⊛ ‵ ftrue) ∷ ‵ (Own κ s) ∷ Γ) (lands C Λ E d u rest ends))
+      → ((u : Val) (f : Fed) (p : ContainerParser) → toldFed f p ≡ numbered (stepOf h (now s)) → Is S.the-row f (u ∷ []) → Is P.the-row p (mach p ∷ []) → Seq K W (‵ (Holds b p) ∷ (‵ (flft κ q) ⊛ ‵ ftrue) ∷ ‵ (Own κ s) ∷ Γ) (lands C Λ E d u rest ends))
       → Seq K W (‵ (Holds b h) ∷ (‵ (flft κ q) ⊛ ‵ ftrue) ∷ ‵ (Own κ s) ∷ Γ) (runs C Λ E (seq (call #jxl-feed·feed-bytes xs d) rest) ends)
   feeds t at-mem run fm known κ q s h b is os k =
       owned t P.the-row (Is P.the-row) (LL.makes P.the-type P′.the-plain 𝓤 H A) h _ is $ move t (1 ∷ 0 ∷ []) $ use2 W (‵ (mem P.the-row .lies h b 0)) (lies-in 𝓤 H A W h b) $
@@ -113,8 +114,8 @@ module _ {M : Type 1} {𝓤 : URA M} {H : Heap 𝓤} {A : Atoms 𝓤} {K : Type 
       move t (2 ∷ 0 ∷ []) $ join t $ move t (0 ∷ 2 ∷ 3 ∷ []) $ use3 W (raw (Feed 𝓤 H A at-mem run .pre (to-feed 𝓤 H A W at-mem run κ q s h b ν γ)) ⊛ ‵ (Own κ s)) (feed-asks 𝓤 H A W at-mem run κ q s h b ν γ) $ split t $
       calls-at t fm (Feed 𝓤 H A at-mem run) known (to-feed 𝓤 H A W at-mem run κ q s h b ν γ) (os _ _ _) (λ u.
       use1 W (later (some (λ (r : Fed). ((‵ (flft (ν ∷ []) fullShare) ⊛ (‵ (flft κ q) ⊛ ‵ ftrue)) ⊛ ‵ (S.the-row .own r (u ∷ []))) ⊛ raw (ensured 𝓤 H A feed.ended (feed.clauses 𝓤 H A at-mem run) (ν ∷ [], (κ, tt)) (lent 𝓤 H A W at-mem run κ q s h b γ, (s, tt)) tt r)))) (id⊢ 𝓤 _) $ await t tt $ pick t (λ f.
-      split t $ move t (1 ∷ []) $ use1 W (some (λ (ws : ContainerParser × (Unit {0} × Unit {0})). ‵ (lasts feed.ended (ν ∷ [], (κ, tt)) (lent 𝓤 H A W at-mem run κ q s h b γ, (s, tt)) ws) ⊛ raw (fact 𝓤 (toldFed f (ws .0) ≡ stepOf h (now s))))) (id⊢ 𝓤 _) $ pick t (λ ws.
-      split t $ move t (1 ∷ []) $ heard t (toldFed f (ws .0) ≡ stepOf h (now s)) (λ told. fsplit t $ move t (2 ∷ []) $ split t $ move t (1 ∷ []) $
+      split t $ move t (1 ∷ []) $ use1 W (some (λ (ws : ContainerParser × (Unit {0} × Unit {0})). ‵ (lasts feed.ended (ν ∷ [], (κ, tt)) (lent 𝓤 H A W at-mem run κ q s h b γ, (s, tt)) ws) ⊛ raw (fact 𝓤 (toldFed f (ws .0) ≡ numbered (stepOf h (now s)))))) (id⊢ 𝓤 _) $ pick t (λ ws.
+      split t $ move t (1 ∷ []) $ heard t (toldFed f (ws .0) ≡ numbered (stepOf h (now s))) (λ told. fsplit t $ move t (2 ∷ []) $ split t $ move t (1 ∷ []) $
       peeks t S.the-row (Is S.the-row) (shows 𝓤 H A S.the-row) f (u ∷ []) (λ answer.
       -- [the answer; the tokens; the parser's last value; true; what the slice owns; the lender's part; …]: the lifetime is ended, and the local comes back
       drop t $ split t $ lft-end t tt $ move t (0 ∷ 5 ∷ 2 ∷ []) $ use3 W (later (‵ (mem P.the-row .lies (ws .0) b 0))) (ref-back 𝓤 H A W P.the-row (ν ∷ []) γ (ws .0) b 0) $ await t tt $

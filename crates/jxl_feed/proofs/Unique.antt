@@ -1,6 +1,8 @@
 -- Two answers that meet a promise are equal.
 use mathlib.Core.Path.{_≡_, sym, _∙_}
 use Rattle.jxl_base.proofs.OneAnswer.{one-named}
+use Rattle.jxl_refusals.specs.Refusals.{why}
+use Rattle.jxl_refusals.proofs.Telling.{why-tells}
 use Rattle.jxl_record.specs.Record.{kindOf}
 use Rattle.jxl_record.specs.declared.ContainerParser.{ContainerParser}
 use Rattle.jxl_feed.specs.Fed.{toldFed}
@@ -17,7 +19,10 @@ told-one (A.Want n) (A.Want m) q r h = (cc, cc)
 told-one (A.Want n) (A.Refused u m) q r h = (cc, cc)
 told-one (A.Refused w n) (A.Shown f m) q r h = (cc, cc)
 told-one (A.Refused w n) (A.Want m) q r h = (cc, cc)
-told-one (A.Refused w n) (A.Refused u m) q r h = (cc, cc)
+told-one (A.Refused w n) (A.Refused u m) q r h =
+    let same : why w ≡ why u = cc in
+    let rule : w ≡ u = why-tells w u same in
+    (cc, cc)
 
 pub one-feed-bytes : OneFeedBytes
 one-feed-bytes p s x y q r a b = told-one x y q r (a ∙ sym b)

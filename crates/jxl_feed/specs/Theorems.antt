@@ -6,13 +6,14 @@ use Rattle.jxl_base.specs.OneAnswer.{OneAnswer}
 use Rattle.jxl_record.specs.Record.{kindOf}
 use Rattle.jxl_record.specs.declared.ContainerParser.{ContainerParser}
 use Rattle.jxl_grammar.specs.Step.{stepOf}
+use Rattle.jxl_grammar.specs.Naming.{numbered}
 use Rattle.jxl_feed.specs.Fed.{toldFed}
 use Rattle.jxl_feed.specs.declared.Fed.{Fed}
 
 -- the answer, and the parser where it stands
 abbrev pub OneFeedBytes : Type 0
 OneFeedBytes =
-    (p : ContainerParser) (s : List ℕ) (x y : Fed) (q r : ContainerParser) → toldFed x q ≡ stepOf p s → toldFed y r ≡ stepOf p s
+    (p : ContainerParser) (s : List ℕ) (x y : Fed) (q r : ContainerParser) → toldFed x q ≡ numbered (stepOf p s) → toldFed y r ≡ numbered (stepOf p s)
     → (x ≡ y) × (q ≡ r)
 
 abbrev pub OneKindLent : Type 0

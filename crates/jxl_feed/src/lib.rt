@@ -6,6 +6,7 @@ use jxl_container::ParseEvent;
 use jxl_container::StepResult;
 ghost use mathlib.Core.Path.{_≡_};
 ghost use Rattle.jxl_record.specs.Record as Record;
+ghost use Rattle.jxl_grammar.specs.Naming.{numbered};
 ghost use Rattle.jxl_grammar.specs.Step.{stepOf};
 ghost use Rattle.jxl_feed.specs.Fed.{toldFed};
 
@@ -32,7 +33,7 @@ struct Apart {
 
 // A step, its parser taken apart from the rest of its answer.
 fn step_apart(input: &[u8], parser: ContainerParser) -> Apart
-    ensures { λ r. ⌜ toldFed (r .fed) (r .next) ≡ stepOf parser (now (input .entry)) ⌝ }
+    ensures { λ r. ⌜ toldFed (r .fed) (r .next) ≡ numbered (stepOf parser (now (input .entry))) ⌝ }
 {
     match jxl_container::step(parser, input) {
         StepResult::Shown {
@@ -60,7 +61,7 @@ fn step_apart(input: &[u8], parser: ContainerParser) -> Apart
 
 // One step of the parser where it stands.
 pub fn feed_bytes<'p, 's>(parser: &'p mut ContainerParser, input: &'s [u8]) -> Fed
-    ensures { λ r. ⌜ toldFed r (now (parser .exit)) ≡ stepOf (now (parser .entry)) (now (input .entry)) ⌝ }
+    ensures { λ r. ⌜ toldFed r (now (parser .exit)) ≡ numbered (stepOf (now (parser .entry)) (now (input .entry))) ⌝ }
 {
     let t = step_apart(input, *parser);
     *parser = t.next;

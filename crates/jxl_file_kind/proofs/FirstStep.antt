@@ -13,14 +13,15 @@ use Rattle.jxl_record.specs.declared.BitstreamKind.{BitstreamKind}
 use Rattle.jxl_record.specs.declared.BitstreamKind.the-variants as K
 use Rattle.jxl_record.specs.declared.ContainerParser.{ContainerParser}
 use Rattle.jxl_record.specs.declared.JxlpIndexState.the-variants.{Initial}
-use Rattle.jxl_grammar.specs.Step.{Told, shows, wants, refuses, signatureStep, stepOf}
+use Rattle.jxl_grammar.specs.Naming.{Numbered, numbered}
+use Rattle.jxl_grammar.specs.Step.{shows, wants, refuses, signatureStep, stepOf}
 use Rattle.jxl_feed.specs.Fed.{toldFed}
 use Rattle.jxl_feed.specs.declared.Fed.{Fed}
 use Rattle.jxl_feed.specs.declared.Fed.the-variants as A
 use Rattle.jxl_file_kind.specs.FileKind.{kindBy, kindOfFile}
 
 -- the parser that a step leaves
-abbrev nextOf : Told → ContainerParser
+abbrev nextOf : Numbered → ContainerParser
 nextOf (shows e p n) = p
 nextOf (wants p n) = p
 nextOf (refuses w p n) = p
@@ -30,18 +31,18 @@ left-there (A.Shown e n) q = refl
 left-there (A.Want n) q = refl
 left-there (A.Refused r n) q = refl
 
-by-signature : (g : Signature) → kindOf (nextOf (signatureStep Initial g)) ≡ kindBy g
+by-signature : (g : Signature) → kindOf (nextOf (numbered (signatureStep Initial g))) ≡ kindBy g
 by-signature G.Bare = refl
 by-signature G.Container = refl
 by-signature G.TooShort = refl
 by-signature G.Neither = refl
 
-first-kind : (s : List ℕ) → kindOf (nextOf (stepOf fresh s)) ≡ kindOfFile s
+first-kind : (s : List ℕ) → kindOf (nextOf (numbered (stepOf fresh s))) ≡ kindOfFile s
 unfolding stepOf signatureOf
 first-kind [] = refl
 first-kind (x ∷ xs) = by-signature (signatureOf (x ∷ xs))
 
-pub kind-after : (f : Fed) (q : ContainerParser) (s : List ℕ) → toldFed f q ≡ stepOf fresh s → kindOf q ≡ kindOfFile s
+pub kind-after : (f : Fed) (q : ContainerParser) (s : List ℕ) → toldFed f q ≡ numbered (stepOf fresh s) → kindOf q ≡ kindOfFile s
 kind-after f q s told = ap kindOf (sym (left-there f q) ∙ ap nextOf told) ∙ first-kind s
 
 -- what `is_container` answers of a kind

@@ -11,12 +11,13 @@ use jxl_record::JxlpIndexState;
 ghost use mathlib.Core.Path.{_≡_};
 ghost use mathlib.Core.List.{[]};
 ghost use Rattle.jxl_headers.specs.Signature.{signatureOf};
+ghost use Rattle.jxl_grammar.specs.Naming.{numbered};
 ghost use Rattle.jxl_grammar.specs.Step as Spec;
 ghost use Rattle.jxl_payloads.specs.Told.{told};
 
 // At the signature.
 pub fn signature_step(jxlp: JxlpIndexState, s: &[u8]) -> StepResult
-    ensures { λ r. ⌜ told r ≡ Spec.signatureStep jxlp (signatureOf (now (s .entry))) ⌝ }
+    ensures { λ r. ⌜ told r ≡ numbered (Spec.signatureStep jxlp (signatureOf (now (s .entry)))) ⌝ }
 {
     match consts::which_signature(s) {
         Signature::Bare => kind_step(BitstreamKind::BareCodestream, jxlp),
@@ -35,7 +36,7 @@ pub fn signature_step(jxlp: JxlpIndexState, s: &[u8]) -> StepResult
 
 // A file with no boxes: its kind, and then all of it is codestream.
 fn kind_step(kind: BitstreamKind, jxlp: JxlpIndexState) -> StepResult
-    ensures { λ r. ⌜ told r ≡ Spec.bareStep kind jxlp ⌝ }
+    ensures { λ r. ⌜ told r ≡ numbered (Spec.bareStep kind jxlp) ⌝ }
 {
     StepResult::Shown {
         event: ParseEvent::BitstreamKind(kind),
@@ -53,7 +54,7 @@ fn kind_step(kind: BitstreamKind, jxlp: JxlpIndexState) -> StepResult
 
 // A step on an empty input: WANT, except in a refused parser.
 pub fn empty_step(p: ContainerParser) -> StepResult
-    ensures { λ r. ⌜ told r ≡ Spec.stepOf p [] ⌝ }
+    ensures { λ r. ⌜ told r ≡ numbered (Spec.stepOf p []) ⌝ }
 {
     let state = p.state;
     match state {

@@ -6,7 +6,8 @@ use native.Mathlib.Omega.{arith}
 use Rattle.jxl_headers.specs.Signature.{signatureOf}
 use Rattle.jxl_grammar.specs.Step.{stepOf}
 use Rattle.jxl_cuts.specs.Feeding.{taking, fed}
-use Rattle.jxl_grammar.specs.Grammar.{Listing, file}
+use Rattle.jxl_refusals.specs.Refusals.{Why}
+use Rattle.jxl_grammar.specs.Grammar.{ListingBy, file}
 use Rattle.jxl_grammar.specs.Theorems.{Caught}
 use Rattle.jxl_base.proofs.Never.{never}
 
@@ -14,8 +15,8 @@ pub caught : Caught
 unfolding file signatureOf stepOf taking fed
 caught =
     record {
-      refuses-caught = λ every. let wrong = ap (λ (l : Listing). l .stop) (every (0xff ∷ 0x0a ∷ [])) in never cc;
-      invalid-caught = λ every. let wrong = ap (λ (l : Listing). l .events) (every (0xff ∷ 0x0a ∷ [])) in never cc;
-      wants-caught = λ every. let wrong = ap (λ (l : Listing). l .events) (every (0xff ∷ 0x0a ∷ [])) in never cc;
-      first-caught = λ every. let wrong = ap (λ (l : Listing). l .events) (every (0xff ∷ 0x0a ∷ [])) in never cc;
+      refuses-caught = λ every. let wrong = ap (λ (l : ListingBy Why). l .stop) (every (0xff ∷ 0x0a ∷ [])) in never cc;
+      invalid-caught = λ every. let wrong = ap (λ (l : ListingBy Why). l .events) (every (0xff ∷ 0x0a ∷ [])) in never cc;
+      wants-caught = λ every. let wrong = ap (λ (l : ListingBy Why). l .events) (every (0xff ∷ 0x0a ∷ [])) in never cc;
+      first-caught = λ every. let wrong = ap (λ (l : ListingBy Why). l .events) (every (0xff ∷ 0x0a ∷ [])) in never cc;
     }

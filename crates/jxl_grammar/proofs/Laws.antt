@@ -15,6 +15,7 @@ use Rattle.jxl_headers.specs.Types.{jxlc, jxlp, brob, reserved}
 use Rattle.jxl_headers.specs.Header.{Header, short, bad, box, headerOf}
 use Rattle.jxl_grammar.specs.Step.{Told, shows, wants, refuses, refuse, ahead, codePart, codeStep, auxPart, row, indexStep, innerStep, jxlcStep, jxlpNext, boxStep, headerStep, signatureStep, awaited, stateStep, stepOf}
 use Rattle.jxl_events.specs.Event.{shifted}
+use Rattle.jxl_grammar.specs.Naming.{numbered}
 use Rattle.jxl_grammar.specs.Laws.{RefusedStays, Repeats, Inside, Kept, EveryStep}
 use Rattle.jxl_headers.proofs.Header.{header-fits, header-under}
 use Rattle.jxl_headers.proofs.Signature.{signature-under, signature-there}
@@ -35,9 +36,12 @@ use Rattle.jxl_refusals.specs.declared.BoxRefusal.the-variants.{SecondJxlc, Jxl
 use Rattle.jxl_events.specs.declared.ParseEvent.{ParseEvent}
 use Rattle.jxl_events.specs.declared.ParseEvent.the-variants as E
 
+pub refused-repeats : (k : BitstreamKind) (r : BoxRefusal) (j : JxlpIndexState) → Repeats r (at (S.Refused k r) j)
+refused-repeats k r j [] = step-empty-refused (at (S.Refused k r) j) refl
+refused-repeats k r j (x ∷ s) = step-state (at (S.Refused k r) j) (x ∷ s) (omega arith) refl
+
 pub refused-stays : RefusedStays
-refused-stays k r j [] = step-empty-refused (at (S.Refused k r) j) refl
-refused-stays k r j (x ∷ s) = step-state (at (S.Refused k r) j) (x ∷ s) (omega arith) refl
+refused-stays k r j s = ap numbered (refused-repeats k r j s)
 
 stays-in : (d : DetectState) (j : JxlpIndexState) → refusedIn d ≡ true → (w : BoxRefusal) × Repeats w (at d j)
 stays-in S.WaitingSignature j e = absurd (let z : _≡_ {A = ℕ} 0 1 = cc in omega arith)
@@ -46,7 +50,7 @@ stays-in (S.WaitingJxlpIndex l) j e = absurd (let z : _≡_ {A = ℕ} 0 1 = cc i
 stays-in (S.WaitingInnerType l) j e = absurd (let z : _≡_ {A = ℕ} 0 1 = cc in omega arith)
 stays-in (S.InAuxBox t l) j e = absurd (let z : _≡_ {A = ℕ} 0 1 = cc in omega arith)
 stays-in (S.InCodestream k l pending) j e = absurd (let z : _≡_ {A = ℕ} 0 1 = cc in omega arith)
-stays-in (S.Refused k r) j e = (r, refused-stays k r j)
+stays-in (S.Refused k r) j e = (r, refused-repeats k r j)
 
 pub stays : (p : ContainerParser) → isRefused p ≡ true → (w : BoxRefusal) × Repeats w p
 stays p e = stays-in (p .state) (p .jxlp) e
@@ -66,7 +70,7 @@ kept-ahead k s (wants p c) h i = (omega (arith, length-drop k s), omega (arith, 
 kept-ahead k s (refuses r p c) h i = (omega (arith, length-drop k s), i .1)
 
 kept-refuse : (r : BoxRefusal) (p : ContainerParser) (c n : ℕ) → c ≤ n → Kept n (refuse r p c)
-kept-refuse r p c n h = (h, refused-stays _ r (p .jxlp))
+kept-refuse r p c n h = (h, refused-repeats _ r (p .jxlp))
 
 kept-part : (j : JxlpIndexState) (k : BitstreamKind) (l : BytesLeft) (n : ℕ) → Kept n (codePart j k l n)
 kept-part j k ToEnd n = (omega arith, omega arith)
@@ -163,7 +167,7 @@ kept-state (S.WaitingJxlpIndex l) j s = kept-index (awaited j) l s
 kept-state (S.WaitingInnerType l) j s = kept-inner j l s
 kept-state (S.InAuxBox t l) j s = kept-aux j t l (length s)
 kept-state (S.InCodestream k l pending) j s = kept-code j k l pending s
-kept-state (S.Refused k r) j s = (omega arith, refused-stays k r j)
+kept-state (S.Refused k r) j s = (omega arith, refused-repeats k r j)
 
 pub every-step : EveryStep
 every-step p s = go s (isRefused p) refl (impossible p) refl

@@ -19,7 +19,7 @@ use Rattle.jxl_grammar.specs.Step as T
 use Rattle.jxl_grammar.specs.Step.{Told, shows, wants, refuses, ahead, codePart, codeStep, auxPart, indexStep, innerStep, jxlcStep, jxlpNext, boxStep, headerStep, signatureStep, awaited, stateStep, stepOf}
 use Rattle.jxl_events.specs.Event.{shifted}
 use Rattle.jxl_grammar.proofs.Step.{code-wants, code-pending, code-shows, index-wants, index-right, index-wrong, inner-wants, inner-reserved, inner-shows, box-jxlc, box-jxlp, box-brob, box-aux, step-empty, step-state}
-use Rattle.jxl_grammar.proofs.Laws.{refused-stays}
+use Rattle.jxl_grammar.proofs.Laws.{refused-repeats}
 use Rattle.jxl_events.proofs.Shifted.{shifted-shifted}
 use Rattle.jxl_headers.proofs.Header.{header-fits, header-short}
 use Rattle.jxl_headers.proofs.Signature.{is-short-bare}
@@ -228,7 +228,7 @@ lists-refused m a (S.WaitingJxlpIndex l) j r s = never r
 lists-refused m a (S.WaitingInnerType l) j r s = never r
 lists-refused m a (S.InAuxBox t l) j r s = never r
 lists-refused m a (S.InCodestream k l pending) j r s = never r
-lists-refused m a (S.Refused k n) j r s = rw (refused-stays k n j s, add-zero a)
+lists-refused m a (S.Refused k n) j r s = rw (refused-repeats k n j s, add-zero a)
 
 lists-step : (m a : ℕ) (p : ContainerParser) (s : List ℕ) → impossible p ≡ false → length s ≤ m → Lists a s (rest m p a s) (stepOf p s)
 lists-step m a p [] i h = go (isRefused p) refl

@@ -9,9 +9,12 @@ use Rattle.jxl_grammar.proofs.Step.{step-empty}
 use Rattle.jxl_record.specs.declared.ContainerParser.{ContainerParser}
 use Rattle.jxl_cuts.proofs.Theorems as Any
 use Rattle.jxl_cuts.proofs.Payloads as AnyPayloads
+use Rattle.jxl_refusals.specs.Refusals.{why}
+use Rattle.jxl_grammar.specs.Step.{stepOf}
 use Rattle.jxl_grammar.specs.Grammar.{Listing, file}
+use Rattle.jxl_grammar.specs.Naming.{stopAs, listingAs}
 use Rattle.jxl_grammar.specs.Parser.{parser}
-use Rattle.jxl_grammar.specs.Feeding.{take, feeding, bytesOf}
+use Rattle.jxl_grammar.specs.Feeding.{events, take, joined, feeding, bytesOf}
 use Rattle.jxl_grammar.specs.Theorems.{listing, EveryFile, NothingToJoin, EveryCut, EveryCutOfAFile, BytesShown, MostUnread, MostUnreadOfPackets, MostEvents, AtMostMore, AlwaysEnds, EndsByItself, OneWay}
 use Rattle.jxl_grammar.proofs.Lawful.{lawful}
 use Rattle.jxl_grammar.proofs.Taking.{takes}
@@ -27,15 +30,24 @@ nothing-to-join = Any.nothing-to-join parser lawful
 pub every-cut : EveryCut
 every-cut p at xs r = Any.every-cut parser lawful p at xs (step-empty p r)
 
-pub every-file : EveryFile
+-- by the rule that broke
+pub whole-file : (s : List ℕ) → listing {step = stepOf} (feeding fresh 0 (s ∷ [])) ≡ file s
 unfolding file
-every-file s = ap listing (whole-feed fresh 0 s) ∙ sym (listed (length s) fresh 0 s refl (omega arith) (takes fresh 0 s .1))
+whole-file s = ap listing (whole-feed fresh 0 s) ∙ sym (listed (length s) fresh 0 s refl (omega arith) (takes fresh 0 s .1))
+
+pub every-file : EveryFile
+every-file s = ap (listingAs why) (whole-file s)
+
+-- the same of packets
+pub cut-file : (xs : List (List ℕ)) → (joined (events (feeding fresh 0 xs)) ≡ file (bytesOf xs) .events)
+    × (feeding fresh 0 xs .consumed ≡ file (bytesOf xs) .consumed) × (feeding fresh 0 xs .stop ≡ file (bytesOf xs) .stop)
+cut-file xs =
+    let cut = every-cut fresh 0 xs refl in
+    let all = whole-file (bytesOf xs) in
+    (cut .events-are ∙ ap (λ (l : Listing). l .events) all, cut .consumed-is ∙ ap (λ (l : Listing). l .consumed) all, cut .stop-is ∙ ap (λ (l : Listing). l .stop) all)
 
 pub every-cut-of-a-file : EveryCutOfAFile
-every-cut-of-a-file xs =
-    let cut = every-cut fresh 0 xs refl in
-    let all = every-file (bytesOf xs) in
-    (cut .events-are ∙ ap (λ (l : Listing). l .events) all, cut .consumed-is ∙ ap (λ (l : Listing). l .consumed) all, cut .stop-is ∙ ap (λ (l : Listing). l .stop) all)
+every-cut-of-a-file xs = let cut = cut-file xs in (cut .0, cut .1, ap (stopAs why) (cut .2))
 
 pub bytes-shown : BytesShown
 bytes-shown = AnyPayloads.bytes-shown parser lawful

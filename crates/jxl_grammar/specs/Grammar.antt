@@ -31,10 +31,10 @@ abbrev pub Stop : Type 0
 Stop = Stops BoxRefusal
 
 -- events with places in the file, the bytes consumed, and the stop
-pub record ListingBy (Why : Type 0) : Type 0 where
+pub record ListingBy (Rule : Type 0) : Type 0 where
   pub events : List ParseEvent
   pub consumed : ℕ
-  pub stop : Stops Why
+  pub stop : Stops Rule
 
 abbrev pub Listing : Type 0
 Listing = ListingBy BoxRefusal

@@ -5,6 +5,8 @@ use Prim.Native.Nat.{ℕ, _+_, _≤_}
 use lib.ListN.{length}
 use Rattle.jxl_cuts.specs.Machine.{Inside as PayloadInside}
 use Rattle.jxl_record.specs.Record.{at}
+use Rattle.jxl_refusals.specs.Refusals.{why}
+use Rattle.jxl_grammar.specs.Naming.{numbered}
 use Rattle.jxl_grammar.specs.Step.{Told, shows, wants, refuses, stepOf}
 use Rattle.jxl_events.specs.Event.{payload}
 use Rattle.jxl_record.specs.declared.BitstreamKind.{BitstreamKind}
@@ -18,9 +20,9 @@ use Rattle.jxl_events.specs.declared.ParseEvent.{ParseEvent}
 abbrev pub RefusedStays : Type 0
 RefusedStays =
     (k : BitstreamKind) (r : BoxRefusal) (j : JxlpIndexState) (s : List ℕ)
-    → stepOf (at (S.Refused k r) j) s ≡ refuses r (at (S.Refused k r) j) 0
+    → numbered (stepOf (at (S.Refused k r) j) s) ≡ refuses (why r) (at (S.Refused k r) j) 0
 
--- a parser that answers refusal w to every input, and stays as it is
+-- a parser that refuses every input for the rule w, and stays as it is
 abbrev pub Repeats : BoxRefusal → ContainerParser → Type 0
 Repeats w p = (s : List ℕ) → stepOf p s ≡ refuses w p 0
 

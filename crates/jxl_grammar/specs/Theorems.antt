@@ -32,9 +32,9 @@ abbrev pub listing : {step : ContainerParser → List ℕ → Told} → Any.Seen
 listing r = record { events = events r; consumed = r .consumed; stop = r .stop }
 
 -- a step that is right of every file: fed whole to a fresh parser it shows exactly the grammar's events, consumes what it says and
--- stops as it says
+-- stops as it says, a refusal by its number and values
 abbrev pub ListsEveryFile : (ContainerParser → List ℕ → Told) → Type 0
-ListsEveryFile step = (s : List ℕ) → listing {step = step} (Any.feeding (parserBy step) fresh 0 (s ∷ [])) ≡ file s
+ListsEveryFile step = (s : List ℕ) → listingAs why (listing {step = step} (Any.feeding (parserBy step) fresh 0 (s ∷ []))) ≡ fileBy why s
 
 -- versions to catch: a parser that only refuses, one that only says KIND invalid, one that only says WANT, and one that gives its first
 -- event rightly and then says WANT
@@ -88,14 +88,14 @@ EveryCut = (p : ContainerParser) (at : ℕ) (xs : List (List ℕ)) → isRefused
 -- and so, of a file cut in any packets, to what the grammar lists
 abbrev pub EveryCutOfAFile : Type 0
 EveryCutOfAFile =
-    (xs : List (List ℕ)) → (joined (events (feeding fresh 0 xs)) ≡ file (bytesOf xs) .events)
-    × (feeding fresh 0 xs .consumed ≡ file (bytesOf xs) .consumed) × (feeding fresh 0 xs .stop ≡ file (bytesOf xs) .stop)
+    (xs : List (List ℕ)) → (joined (events (feeding fresh 0 xs)) ≡ fileBy why (bytesOf xs) .events)
+    × (feeding fresh 0 xs .consumed ≡ fileBy why (bytesOf xs) .consumed) × (stopAs why (feeding fresh 0 xs .stop) ≡ fileBy why (bytesOf xs) .stop)
 
 -- the events of packets joined, the bytes consumed, and the stop by a naming
 abbrev pub joinedBy : Naming → Seen → ListingBy Why
 joinedBy name r = record { events = joined (events r); consumed = r .consumed; stop = stopAs name (r .stop) }
 
--- whatever the refusals are called: by `why` this is the listing with each refusal's number and values
+-- and the same whatever the refusals are called
 abbrev pub EveryCutByName : Type 0
 EveryCutByName = (name : Naming) (xs : List (List ℕ)) → joinedBy name (feeding fresh 0 xs) ≡ fileBy name (bytesOf xs)
 

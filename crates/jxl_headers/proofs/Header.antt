@@ -1,5 +1,5 @@
 -- What each way through the tests of a box header says of the input.
-use mathlib.Core.Path.{_≡_, refl}
+use mathlib.Core.Path.{_≡_, refl, sym, ap, _∙_}
 use mathlib.Core.Bool.{Bool, true, false}
 use mathlib.Core.List.{List}
 use Prim.Native.Nat.{ℕ, _-_, _<_, _≤_}
@@ -8,10 +8,12 @@ use lib.Dec.{ltb, eqb}
 use lib.ListN.{length}
 use borrow.Author.Tests.{lt-ltb, le-ltb, eq-eqb, ne-eqb, ltb-true, ltb-false}
 use Rattle.jxl_headers.specs.Bytes.{if, be32, be64}
-use Rattle.jxl_headers.specs.Header.{Header, short, bad, box, headerOf, extended}
+use Rattle.jxl_headers.specs.Header.{Header, short, bad, box, headerOf, extended, ToldHeader, numbered}
 use Rattle.jxl_reach.specs.declared.BytesLeft.{BytesLeft}
 use Rattle.jxl_reach.specs.declared.BytesLeft.the-variants.{ToEnd, Bytes}
+use Rattle.jxl_refusals.specs.Refusals.{why}
 use Rattle.jxl_refusals.specs.declared.BoxRefusal.the-variants.{ShortSize, ExtendedSize}
+use Rattle.jxl_refusals.proofs.Telling.{why-tells}
 
 module _ (s : List ℕ) where
   pub extended-short : length s < 16 → extended s ≡ short
@@ -96,3 +98,20 @@ header-fits s e = rw e at (header-sized s)
 
 pub header-under : (s : List ℕ) → headerOf s ≡ short → length s < 16
 header-under s e = rw e at (header-sized s)
+
+unnumbered : (g h : Header) → numbered g ≡ numbered h → g ≡ h
+unnumbered short short e = refl
+unnumbered short (bad r) e = cc
+unnumbered short (box t l n) e = cc
+unnumbered (bad r) short e = cc
+unnumbered (bad r) (bad q) e =
+    let same : why r ≡ why q = cc in
+    ap bad (why-tells r q same)
+unnumbered (bad r) (box t l n) e = cc
+unnumbered (box t l n) short e = cc
+unnumbered (box t l n) (bad r) e = cc
+unnumbered (box t l n) (box u k m) e = cc
+
+-- what the code read is what the header says
+pub says : (s : List ℕ) (g : Header) {t : ToldHeader} → t ≡ numbered (headerOf s) → t ≡ numbered g → headerOf s ≡ g
+says s g e f = unnumbered (headerOf s) g (sym e ∙ f)

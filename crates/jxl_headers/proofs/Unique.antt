@@ -1,9 +1,11 @@
 -- Two answers that meet a promise are equal.
-use mathlib.Core.Path.{_≡_, refl}
+use mathlib.Core.Path.{_≡_, refl, ap}
 use Rattle.jxl_base.proofs.OneAnswer.{one-named, one-told}
 use Rattle.jxl_headers.specs.Bytes.{be32}
 use Rattle.jxl_headers.specs.Signature.{signatureOf}
-use Rattle.jxl_headers.specs.Header.{headerOf, toldHeader}
+use Rattle.jxl_headers.specs.Header.{headerOf, numbered, toldHeader}
+use Rattle.jxl_refusals.specs.Refusals.{why}
+use Rattle.jxl_refusals.proofs.Telling.{why-tells}
 use Rattle.jxl_headers.specs.Theorems.{OneSignature, OneHeader, OneWord}
 use Rattle.jxl_headers.specs.declared.box_header.HeaderParseResult.{HeaderParseResult}
 use Rattle.jxl_headers.specs.declared.box_header.HeaderParseResult.the-variants as H
@@ -21,13 +23,15 @@ header-one H.NeedMoreData H.NeedMoreData e = refl
 header-one H.NeedMoreData (H.Refused r) e = cc
 header-one (H.Refused q) (H.Done g m) e = cc
 header-one (H.Refused q) H.NeedMoreData e = cc
-header-one (H.Refused q) (H.Refused r) e = cc
+header-one (H.Refused q) (H.Refused r) e =
+    let same : why q ≡ why r = cc in
+    ap H.Refused (why-tells q r same)
 
 pub one-signature : OneSignature
 one-signature s = one-named (signatureOf s)
 
 pub one-header : OneHeader
-one-header s = one-told toldHeader header-one (headerOf s)
+one-header s = one-told toldHeader header-one (numbered (headerOf s))
 
 pub one-word : OneWord
 one-word s at = one-named (be32 s at)

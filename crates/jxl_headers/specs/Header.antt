@@ -4,6 +4,7 @@ use Prim.Native.Nat.{ℕ, _-_}
 use lib.Dec.{ltb, eqb}
 use lib.ListN.{length}
 use Rattle.jxl_headers.specs.Bytes.{if, be32, be64}
+use Rattle.jxl_refusals.specs.Refusals.{Why, why}
 use Rattle.jxl_reach.specs.declared.BytesLeft.{BytesLeft}
 use Rattle.jxl_reach.specs.declared.BytesLeft.the-variants.{ToEnd, Bytes}
 use Rattle.jxl_refusals.specs.declared.BoxRefusal.{BoxRefusal}
@@ -36,8 +37,19 @@ headerOf s =
     (if (ltb (be32 s 0) 8) (bad ShortSize)
     (box (be32 s 4) (Bytes (be32 s 0 - 8)) 8))))
 
+-- a header in the paper's words, a refusal by its number and what it tells
+pub data ToldHeader : Type 0 where
+  wants : ToldHeader
+  refuses : Why → ToldHeader
+  reads : ℕ → BytesLeft → ℕ → ToldHeader
+
+abbrev pub numbered : Header → ToldHeader
+numbered short = wants
+numbered (bad r) = refuses (why r)
+numbered (box t l n) = reads t l n
+
 -- what an answer of the code says in these words
-abbrev pub toldHeader : HeaderParseResult → Header
-toldHeader (Done h n) = box (h .ty) (h .«box_size») n
-toldHeader NeedMoreData = short
-toldHeader (Refused r) = bad r
+abbrev pub toldHeader : HeaderParseResult → ToldHeader
+toldHeader (Done h n) = reads (h .ty) (h .«box_size») n
+toldHeader NeedMoreData = wants
+toldHeader (Refused r) = refuses (why r)

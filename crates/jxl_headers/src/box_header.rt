@@ -5,7 +5,7 @@ ghost use mathlib.Core.Path.{_≡_};
 ghost use Prim.Native.Nat.{_+_, _≤_, _<_};
 ghost use lib.ListN.{getD, length};
 ghost use Rattle.jxl_headers.specs.Bytes.{be32, be64};
-ghost use Rattle.jxl_headers.specs.Header.{extended, headerOf, toldHeader};
+ghost use Rattle.jxl_headers.specs.Header.{extended, headerOf, numbered, toldHeader};
 
 // Types of JPEG XL container boxes: the four bytes, the first the highest.
 // JPEG XL signature box, `JXL `.
@@ -111,7 +111,7 @@ fn be64_at(s: &[u8], at: usize) -> u64
 // A header whose size is 1: a 64-bit size behind the type.
 fn parse_extended(s: &[u8]) -> HeaderParseResult
     requires { ⌜ 8 ≤ length (now s) ⌝ }
-    ensures { λ r. ⌜ toldHeader r ≡ extended (now (s .entry)) ⌝ }
+    ensures { λ r. ⌜ toldHeader r ≡ numbered (extended (now (s .entry))) ⌝ }
 {
     if s.len() < 16 {
         return HeaderParseResult::NeedMoreData;
@@ -132,7 +132,7 @@ fn parse_extended(s: &[u8]) -> HeaderParseResult
 
 // The header at the front of `s`.
 pub fn parse_header(s: &[u8]) -> HeaderParseResult
-    ensures { λ r. ⌜ toldHeader r ≡ headerOf (now (s .entry)) ⌝ }
+    ensures { λ r. ⌜ toldHeader r ≡ numbered (headerOf (now (s .entry))) ⌝ }
 {
     if s.len() < 8 {
         return HeaderParseResult::NeedMoreData;

@@ -4,8 +4,7 @@ use mathlib.Core.List.{List, [], _∷_, _++_}
 use Prim.Native.Nat.{ℕ, _^_, _<_}
 use lib.Dec.{eqb}
 use Rattle.jxl_headers.specs.Bytes.{if}
-use Rattle.jxl_refusals.specs.Refusals.{Why, refusal, why, merged}
-use Rattle.jxl_refusals.specs.declared.BoxRefusal.{BoxRefusal}
+use Rattle.jxl_refusals.specs.Refusals.{Why, refusal, merged}
 use Rattle.jxl_record.specs.declared.BitstreamKind.{BitstreamKind}
 use Rattle.jxl_record.specs.declared.BitstreamKind.the-variants as K
 use Rattle.jxl_events.specs.declared.ParseEvent.{ParseEvent}
@@ -72,8 +71,8 @@ abbrev pub refusedWord : Why → StopWord
 refusedWord (refusal n values) = if (eqb n 1) Refused1 Refused2
 
 -- what is printed of a refusal: numbers 10 to 19 are merged back into 1
-abbrev pub printed : BoxRefusal → StopWord
-printed r = refusedWord (merged (why r))
+abbrev pub printed : Why → StopWord
+printed w = refusedWord (merged w)
 
 -- the fields of an event's line
 abbrev pub eventFields : ParseEvent → List (List ℕ)

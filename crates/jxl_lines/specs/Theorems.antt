@@ -4,6 +4,7 @@ use mathlib.Core.List.{List}
 use Prim.Native.Nat.{ℕ, _+_, _≤_, _<_}
 use lib.ListN.{length}
 use Rattle.jxl_base.specs.OneAnswer.{OneAnswer, OneAnswerAndBuffer}
+use Rattle.jxl_refusals.specs.Refusals.{why}
 use Rattle.jxl_refusals.specs.declared.BoxRefusal.{BoxRefusal}
 use Rattle.jxl_lines.specs.Lines.{printed, text, InRange}
 use Rattle.jxl_lines.specs.Pasting.{pasted}
@@ -34,7 +35,7 @@ KeptWithoutRoom = (d : List ℕ) (at : ℕ) (w : List ℕ) → length d < at + l
 
 -- one answer: each promise determines what its function gives
 abbrev pub OneRefused : Type 0
-OneRefused = (w : BoxRefusal) → OneAnswer (λ r. r ≡ printed w)
+OneRefused = (w : BoxRefusal) → OneAnswer (λ r. r ≡ printed (why w))
 
 -- the same of any bytes put: the answer, and the buffer that it leaves
 abbrev pub OnePutBytes : Type 0

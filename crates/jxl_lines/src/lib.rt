@@ -2,6 +2,7 @@
 use jxl_events::ParseEvent;
 use jxl_refusals::BoxRefusal;
 ghost use mathlib.Core.Path.{_≡_};
+ghost use Rattle.jxl_refusals.specs.Refusals.{why};
 ghost use Rattle.jxl_lines.specs.Lines.{printed};
 
 // Why a listing ends, as it is printed: more is wanted, or a refusal by its number in document 01.
@@ -14,7 +15,7 @@ pub enum StopWord {
 impl StopWord {
     // What is printed of a refusal.
     pub fn refused(refusal: BoxRefusal) -> StopWord
-        ensures { λ r. ⌜ r ≡ printed refusal ⌝ }
+        ensures { λ r. ⌜ r ≡ printed (why refusal) ⌝ }
     {
         match refusal {
             BoxRefusal::ValidationFailed => StopWord::Refused2,

@@ -16,6 +16,7 @@ use Rattle.jxl_events.specs.declared.ParseEvent.{ParseEvent}
 use Rattle.jxl_grammar.specs.Feeding.{Seen}
 use Rattle.jxl_joiner.specs.Joiner.{adding, handed}
 use Rattle.jxl_joiner.specs.declared.MaybeEvent.{MaybeEvent}
+use Rattle.jxl_refusals.specs.Refusals.{why}
 use Rattle.jxl_lines.specs.Lines.{printed}
 use Rattle.jxl_lines.specs.declared.StopWord.{StopWord}
 use Rattle.jxl_lines.specs.declared.StopWord.the-variants as S
@@ -41,7 +42,7 @@ pub data Goes (base : ℕ) (s : List ℕ) : ℕ → ContainerParser → MaybeEve
       → room < length (lineOf h e) → u ≡ over TurnEnd.Full p h k → Goes base s room p h k u
   waits : {room k c : ℕ} {p q : ContainerParser} {h : MaybeEvent} {u : Turned} → stepOf p (drop k s) ≡ wants q c → u ≡ over (TurnEnd.Stopped S.Want) q h (k + c) → Goes base s room p h k u
   ends : {room k c : ℕ} {x : BoxRefusal} {p q : ContainerParser} {h : MaybeEvent} {u : Turned} → stepOf p (drop k s) ≡ refuses x q c
-      → u ≡ over (TurnEnd.Stopped (printed x)) q h (k + c) → Goes base s room p h k u
+      → u ≡ over (TurnEnd.Stopped (printed (why x))) q h (k + c) → Goes base s room p h k u
 
 module _ (base : ℕ) (s : List ℕ) where
   -- by what the next step tells, and whether there is room

@@ -15,6 +15,7 @@ use Rattle.jxl_grammar.specs.Feeding as Feeding
 use Rattle.jxl_grammar.specs.Theorems.{All}
 use Rattle.jxl_joiner.specs.declared.MaybeEvent.{MaybeEvent}
 use Rattle.jxl_grammar.proofs.Taking.{takes, take-is}
+use Rattle.jxl_refusals.specs.Refusals.{why}
 use Rattle.jxl_lines.specs.Lines.{printed}
 use Rattle.jxl_lines.specs.declared.StopWord.{StopWord}
 use Rattle.jxl_lines.specs.declared.StopWord.the-variants as S
@@ -62,7 +63,7 @@ module _ (base : ℕ) (s : List ℕ) where
   moved c {k = k} {p = p} {h = h} (waits {c = n} {q = q} st so) =
       waits (ap (stepOf p) (sym (drop-drop k c s)) ∙ st) (ap (forward c) so ∙ ap (over (TurnEnd.Stopped S.Want) q h) (let z : c + (k + n) ≡ c + k + n = omega arith in z))
   moved c {k = k} {p = p} {h = h} (ends {c = n} {x = x} {q = q} st so) =
-      ends (ap (stepOf p) (sym (drop-drop k c s)) ∙ st) (ap (forward c) so ∙ ap (over (TurnEnd.Stopped (printed x)) q h) (let z : c + (k + n) ≡ c + k + n = omega arith in z))
+      ends (ap (stepOf p) (sym (drop-drop k c s)) ∙ st) (ap (forward c) so ∙ ap (over (TurnEnd.Stopped (printed (why x))) q h) (let z : c + (k + n) ≡ c + k + n = omega arith in z))
 
   -- the room that the lines fill is enough
   filled : {room k : ℕ} {p : ContainerParser} {h : MaybeEvent} {t : Turned} → Goes base s room p h k t → Goes base s (length (t .lines)) p h k t

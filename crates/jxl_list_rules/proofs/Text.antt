@@ -8,6 +8,7 @@ use lib.Seq.{take-all, drop-drop}
 use lib.Dec.{leb}
 use borrow.Author.Tests.{le-leb, lt-leb}
 use Rattle.jxl_grammar.specs.Laws.{Inside}
+use Rattle.jxl_refusals.specs.Refusals.{why}
 use Rattle.jxl_refusals.specs.declared.BoxRefusal.{BoxRefusal}
 use Rattle.jxl_record.specs.Record.{fresh}
 use Rattle.jxl_grammar.specs.Step.{Told, shows, wants, refuses, stepOf}
@@ -21,7 +22,7 @@ use Rattle.jxl_grammar.specs.Feeding as Feeding
 use Rattle.jxl_grammar.specs.Grammar.{file}
 use Rattle.jxl_grammar.specs.Theorems.{listing}
 use Rattle.jxl_grammar.proofs.Taking.{takes, take-is}
-use Rattle.jxl_grammar.proofs.Theorems.{every-file, whole-feed}
+use Rattle.jxl_grammar.proofs.Theorems.{whole-file, whole-feed}
 use Rattle.jxl_lines.specs.Lines.{printed, text}
 use Rattle.jxl_lines.specs.Pasting.{pasted}
 use Rattle.jxl_lines.specs.Putting.{leaves}
@@ -103,14 +104,14 @@ module _ (p : ContainerParser) (f : List ℕ) (at : ℕ) where
           let place : at + c ≡ k = cc in
           ap (λ (x : Seen). listingText (listing x)) (take-is (waits s)) ∙ (λ i. text (L.Stopped (stop i) (place i)))
       go (refuses x r c) s n =
-          let stop : printed x ≡ w = cc in
+          let stop : printed (why x) ≡ w = cc in
           let place : at + c ≡ k = cc in
           ap (λ (x : Seen). listingText (listing x)) (take-is (ends s)) ∙ (λ i. text (L.Stopped (stop i) (place i)))
 
 -- all of it
 pub rest-file : (f : List ℕ) → Rest fresh 0 f ≡ fileText f
 unfolding fileText
-rest-file f = ap listingText (sym (ap listing (whole-feed fresh 0 f)) ∙ every-file f)
+rest-file f = ap listingText (sym (ap listing (whole-feed fresh 0 f)) ∙ whole-file f)
 
 -- a listing that fits, and one that does not
 pub list-fits : (d w : List ℕ) → length w ≤ length d → listOf d w ≡ leaves (Written (length w)) (pasted d 0 w)

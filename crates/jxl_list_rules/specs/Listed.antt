@@ -5,7 +5,7 @@ use lib.Dec.{leb}
 use lib.ListN.{length}
 use Rattle.jxl_headers.specs.Bytes.{if}
 use Rattle.jxl_cuts.specs.Feeding.{Stop as Stops}
-use Rattle.jxl_refusals.specs.Refusals.{Why, inDocument01}
+use Rattle.jxl_refusals.specs.Refusals.{Why, why, inDocument01}
 use Rattle.jxl_grammar.specs.Step.{Told, shows, wants, refuses, stepOf}
 use Rattle.jxl_events.specs.Event.{shifted}
 use Rattle.jxl_record.specs.declared.ContainerParser.{ContainerParser}
@@ -25,7 +25,7 @@ use Rattle.jxl_list_rules.specs.declared.AfterStep.the-variants as N
 
 abbrev pub stopOf : G.Stop → StopWord
 stopOf G.want = S.Want
-stopOf (G.refused w) = printed w
+stopOf (G.refused r) = printed (why r)
 
 abbrev pub texts : List ParseEvent → List ℕ
 texts [] = []
@@ -52,7 +52,7 @@ fileTextIn01 s =
 abbrev pub nextIn : ℕ → Told → AfterStep
 nextIn at (shows e q c) = N.Shown (shifted at e) q (at + c)
 nextIn at (wants q c) = N.Stopped S.Want q (at + c)
-nextIn at (refuses w q c) = N.Stopped (printed w) q (at + c)
+nextIn at (refuses r q c) = N.Stopped (printed (why r)) q (at + c)
 
 abbrev pub nextOf : ContainerParser → ℕ → List ℕ → AfterStep
 nextOf p at s = nextIn at (stepOf p s)

@@ -16,6 +16,7 @@ ghost use Prim.Native.Nat.{_-_};
 ghost use lib.Dec.{ltb};
 ghost use lib.ListN.{length, drop};
 ghost use Rattle.jxl_headers.specs.Types.{reserved};
+ghost use Rattle.jxl_grammar.specs.Naming.{numbered};
 ghost use Rattle.jxl_grammar.specs.Step as Spec;
 ghost use Rattle.jxl_payloads.specs.Told.{told};
 
@@ -39,7 +40,7 @@ fn row(word: u32, i: u32) -> JxlpIndexState
 
 // A `jxlp` payload at `at`, whose index must be `i`.
 pub fn index_step(i: u32, left: BytesLeft, s: &[u8], at: usize) -> StepResult
-    ensures { λ r. ⌜ told r ≡ Spec.ahead at (Spec.indexStep i left (drop at (now (s .entry)))) ⌝ }
+    ensures { λ r. ⌜ told r ≡ numbered (Spec.ahead at (Spec.indexStep i left (drop at (now (s .entry))))) ⌝ }
 {
     let waiting = ContainerParser::at(DetectState::WaitingJxlpIndex(left), JxlpIndexState::Jxlp(i));
     if is_short(s, at) {
@@ -82,7 +83,7 @@ fn is_reserved(ty: u32) -> bool
 
 // A `brob` payload at `at`.
 pub fn inner_step(jxlp: JxlpIndexState, left: BytesLeft, s: &[u8], at: usize) -> StepResult
-    ensures { λ r. ⌜ told r ≡ Spec.ahead at (Spec.innerStep jxlp left (drop at (now (s .entry)))) ⌝ }
+    ensures { λ r. ⌜ told r ≡ numbered (Spec.ahead at (Spec.innerStep jxlp left (drop at (now (s .entry))))) ⌝ }
 {
     let waiting = ContainerParser::at(DetectState::WaitingInnerType(left), jxlp);
     if is_short(s, at) {

@@ -7,6 +7,7 @@ use jxl_record::JxlpIndexState;
 use jxl_refusals::BoxRefusal;
 ghost use mathlib.Core.Path.{_≡_};
 ghost use Prim.Native.Nat.{min};
+ghost use Rattle.jxl_grammar.specs.Naming.{numbered};
 ghost use Rattle.jxl_grammar.specs.Step as Spec;
 ghost use Rattle.jxl_payloads.specs.Told.{told};
 
@@ -30,7 +31,7 @@ pub enum StepResult {
 
 // A refusal: the parser is refused from now on, and its kind stays what it was.
 pub fn refuse(refusal: BoxRefusal, p: ContainerParser, consumed: usize) -> StepResult
-    ensures { λ r. ⌜ told r ≡ Spec.refuse refusal p consumed ⌝ }
+    ensures { λ r. ⌜ told r ≡ numbered (Spec.refuse refusal p consumed) ⌝ }
 {
     let kind = p.kind();
     let jxlp = p.jxlp;
@@ -43,7 +44,7 @@ pub fn refuse(refusal: BoxRefusal, p: ContainerParser, consumed: usize) -> StepR
 
 // Inside a side box, with `n` bytes of input, at least one.
 pub fn aux_step(jxlp: JxlpIndexState, ty: u32, left: BytesLeft, n: usize) -> StepResult
-    ensures { λ r. ⌜ told r ≡ Spec.auxPart jxlp ty left n ⌝ }
+    ensures { λ r. ⌜ told r ≡ numbered (Spec.auxPart jxlp ty left n) ⌝ }
 {
     match left {
         BytesLeft::ToEnd => StepResult::Shown {

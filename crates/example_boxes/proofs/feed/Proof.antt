@@ -6,7 +6,7 @@ use native.Mathlib.Omega.{arith}
 use lib.ListN.{length}
 use denote.Ref.{now}
 use borrow.Author.Needs.{needs}
-use Rattle.jxl_payloads.specs.Told.{told}
+use Rattle.jxl_payloads.proofs.Ruled.{ruled, by-rule}
 use Rattle.jxl_grammar.specs.Feeding.{Seen}
 use Rattle.jxl_list_rules.proofs.Text.{count, far, shown-fits, wants-fits, refuses-fits, taken-shown}
 use Rattle.example_boxes.proofs.feed.Statement.{statement}
@@ -43,21 +43,21 @@ add-at : tie.Need-add-at Inv-loop μ-loop
 add-at c =
     let l = c .before .before .before .before .before .before .loop in
     let f = now (c .before .before .before .before .before .before .before .before .args .input) in
-    let s = far (l .p) f (l .at) (l .inv) (c .before .before .before .before .step .ensures) (ap told (c .before .before .next .given .1)) in
+    let s = far (l .p) f (l .at) (l .inv) (by-rule (c .before .before .before .before .step .result) _ (c .before .before .before .before .step .ensures)) (ap ruled (c .before .before .next .given .1)) in
     omega (arith, shown-fits (l .p) f (l .at) (l .inv) s .1)
 
 loop-less : tie.Need-loop-less Inv-loop μ-loop
 loop-less c =
     let l = c .before .before .before .before .before .before .loop in
     let f = now (c .before .before .before .before .before .before .before .before .args .input) in
-    let s = far (l .p) f (l .at) (l .inv) (c .before .before .before .before .step .ensures) (ap told (c .before .before .next .given .1)) in
+    let s = far (l .p) f (l .at) (l .inv) (by-rule (c .before .before .before .before .step .result) _ (c .before .before .before .before .step .ensures)) (ap ruled (c .before .before .next .given .1)) in
     omega (arith, ap (λ (x : Seen). length (x .shown)) (taken-shown (l .p) f (l .at) s))
 
 loop-again : tie.Need-loop-again Inv-loop μ-loop
 loop-again c =
     let l = c .before .before .before .before .before .before .loop in
     let f = now (c .before .before .before .before .before .before .before .before .args .input) in
-    let s = far (l .p) f (l .at) (l .inv) (c .before .before .before .before .step .ensures) (ap told (c .before .before .next .given .1)) in
+    let s = far (l .p) f (l .at) (l .inv) (by-rule (c .before .before .before .before .step .result) _ (c .before .before .before .before .step .ensures)) (ap ruled (c .before .before .next .given .1)) in
     shown-fits (l .p) f (l .at) (l .inv) s .1
 
 enum-known-next-2 : tie.Need-enum-known-next-2 Inv-loop μ-loop
@@ -67,14 +67,14 @@ add-t18 : tie.Need-add-t18 Inv-loop μ-loop
 add-t18 c =
     let l = c .before .before .before .before .before .loop in
     let f = now (c .before .before .before .before .before .before .before .args .input) in
-    let s = far (l .p) f (l .at) (l .inv) (c .before .before .before .step .ensures) (ap told (c .before .next2 .given .1)) in
+    let s = far (l .p) f (l .at) (l .inv) (by-rule (c .before .before .before .step .result) _ (c .before .before .before .step .ensures)) (ap ruled (c .before .next2 .given .1)) in
     omega (arith, wants-fits (l .p) f (l .at) (l .inv) s)
 
 returns : tie.Need-returns Inv-loop μ-loop
 returns c =
     let l = c .before .before .before .before .before .loop in
     let f = now (c .before .before .before .before .before .before .before .args .input) in
-    let s = far (l .p) f (l .at) (l .inv) (c .before .before .before .step .ensures) (ap told (c .before .next2 .given .1)) in
+    let s = far (l .p) f (l .at) (l .inv) (by-rule (c .before .before .before .step .result) _ (c .before .before .before .step .ensures)) (ap ruled (c .before .next2 .given .1)) in
     wants-fits (l .p) f (l .at) (l .inv) s
 
 enum-known-next-3 : tie.Need-enum-known-next-3 Inv-loop μ-loop
@@ -84,14 +84,14 @@ add-t19 : tie.Need-add-t19 Inv-loop μ-loop
 add-t19 c =
     let l = c .before .before .before .before .before .loop in
     let f = now (c .before .before .before .before .before .before .before .args .input) in
-    let s = far (l .p) f (l .at) (l .inv) (c .before .before .before .step .ensures) (ap told (c .before .next3 .given .1)) in
+    let s = far (l .p) f (l .at) (l .inv) (by-rule (c .before .before .before .step .result) _ (c .before .before .before .step .ensures)) (ap ruled (c .before .next3 .given .1)) in
     omega (arith, refuses-fits (l .p) f (l .at) (l .inv) s)
 
 returns-2 : tie.Need-returns-2 Inv-loop μ-loop
 returns-2 c =
     let l = c .before .before .before .before .before .loop in
     let f = now (c .before .before .before .before .before .before .before .args .input) in
-    let s = far (l .p) f (l .at) (l .inv) (c .before .before .before .step .ensures) (ap told (c .before .next3 .given .1)) in
+    let s = far (l .p) f (l .at) (l .inv) (by-rule (c .before .before .before .step .result) _ (c .before .before .before .step .ensures)) (ap ruled (c .before .next3 .given .1)) in
     refuses-fits (l .p) f (l .at) (l .inv) s
 
 pub feed-spec : {M : Type 1} → statement M

@@ -1,5 +1,7 @@
 use mathlib.Core.Path.{_≡_, sym, ap, _∙_}
-use Rattle.jxl_headers.specs.Header.{toldHeader}
+use denote.Ref.{now}
+use Rattle.jxl_headers.specs.Header.{short, bad, box, toldHeader}
+use Rattle.jxl_headers.proofs.Header.{says}
 use borrow.Author.Needs.{needs}
 use Rattle.jxl_container.proofs.header_step.Statement.{statement}
 use Rattle.jxl_container.proofs.header_step.Tie as tie
@@ -27,16 +29,16 @@ box-step-requires c κs = search needs
 
 returns : tie.Need-returns
 returns c =
-    rw (sym (c .before .before .parse-header .ensures) ∙ ap toldHeader (c .enum-told .given .1), c .before .before .before .at .ensures)
+    rw (says (now (c .before .before .before .before .before .args .s)) short (c .before .before .parse-header .ensures) (ap toldHeader (c .enum-told .given .1)), c .before .before .before .at .ensures)
 
 returns-2 : tie.Need-returns-2
 returns-2 c =
     c .refuse .ensures
-    ∙ rw (sym (c .before .before .before .before .parse-header .ensures) ∙ ap toldHeader (c .before .before .refusal .given .1), c .before .before .before .before .before .at .ensures)
+    ∙ rw (says (now (c .before .before .before .before .before .before .before .args .s)) (bad (c .before .before .refusal .given .0 .0)) (c .before .before .before .before .parse-header .ensures) (ap toldHeader (c .before .before .refusal .given .1)), c .before .before .before .before .before .at .ensures)
 
 returns-3 : tie.Need-returns-3
 returns-3 c =
-    rw (sym (c .before .before .before .before .parse-header .ensures) ∙ ap toldHeader (c .before .before .header .given .1)) (c .box-step .ensures)
+    rw (says (now (c .before .before .before .before .before .before .before .args .s)) (box _ _ _) (c .before .before .before .before .parse-header .ensures) (ap toldHeader (c .before .before .header .given .1))) (c .box-step .ensures)
 
 pub header-step-spec : {M : Type 1} → statement M
 header-step-spec =

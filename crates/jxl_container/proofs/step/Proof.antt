@@ -3,6 +3,7 @@ use native.Mathlib.Omega.{arith}
 use denote.Ref.{now}
 use Rattle.jxl_grammar.specs.Step.{stepOf}
 use Rattle.jxl_grammar.proofs.Step.{step-impossible, step-state, none}
+use Rattle.jxl_grammar.specs.Naming.{numbered}
 use borrow.Author.Needs.{needs}
 use Rattle.jxl_container.proofs.step.Statement.{statement}
 use Rattle.jxl_container.proofs.step.Tie as tie
@@ -16,7 +17,7 @@ empty-step-requires c κs = search needs
 returns : tie.Need-returns
 returns c =
     rw (sym (c .before .before .same .ensures))
-    (c .empty-step .ensures ∙ ap (stepOf _) (sym (none (now (c .before .before .before .before .args .input)) (c .before .if1 .taken))))
+    (c .empty-step .ensures ∙ ap numbered (ap (stepOf _) (sym (none (now (c .before .before .before .before .args .input)) (c .before .if1 .taken)))))
 
 is-impossible-requires : tie.Need-is-impossible-requires
 is-impossible-requires c κs = search needs
@@ -28,7 +29,7 @@ returns-2 : tie.Need-returns-2
 returns-2 c =
     rw (sym (c .before .before .before .before .same .ensures))
     (c .refuse .ensures
-    ∙ sym (step-impossible _ (now (c .before .before .before .before .before .before .args .input)) (omega arith) (sym (c .before .before .is-impossible .ensures) ∙ c .before .if2 .taken)))
+    ∙ ap numbered (sym (step-impossible _ (now (c .before .before .before .before .before .before .args .input)) (omega arith) (sym (c .before .before .is-impossible .ensures) ∙ c .before .if2 .taken))))
 
 state-step-requires : tie.Need-state-step-requires
 state-step-requires c κs = sym (c .before .is-impossible .ensures) ∙ c .if2 .left
@@ -37,7 +38,7 @@ returns-3 : tie.Need-returns-3
 returns-3 c =
     rw (sym (c .before .before .before .before .same .ensures))
     (c .state-step .ensures
-    ∙ sym (step-state _ (now (c .before .before .before .before .before .before .args .input)) (omega arith) (sym (c .before .before .is-impossible .ensures) ∙ c .before .if2 .left)))
+    ∙ ap numbered (sym (step-state _ (now (c .before .before .before .before .before .before .args .input)) (omega arith) (sym (c .before .before .is-impossible .ensures) ∙ c .before .if2 .left))))
 
 pub step-spec : {M : Type 1} → statement M
 step-spec =

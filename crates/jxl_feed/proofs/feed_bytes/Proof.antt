@@ -43,6 +43,7 @@ use denote.Triple.Walked.{says, Stays, stay-ref, stay-none-slice, walkOf, goes-n
 use denote.Triple.Clauses.{ensured, lasts}
 use denote.Exit.{yes}
 use Rattle.jxl_grammar.specs.Step.{stepOf}
+use Rattle.jxl_grammar.specs.Naming.{numbered}
 use Rattle.jxl_record.specs.declared.ContainerParser.{ContainerParser}
 use Rattle.jxl_record.proofs.ContainerParser as P
 use Rattle.jxl_record.proofs.ContainerParser.Laws as P′
@@ -91,7 +92,7 @@ module _ {M : Type 1} (𝓤 : URA M) (H : Heap 𝓤) (A : Atoms 𝓤) (W : Given
 
   -- what is known of the answer
   abbrev Said : Apart → Type 0
-  Said r = toldFed (r .fed) (r .next) ≡ stepOf h (now s)
+  Said r = toldFed (r .fed) (r .next) ≡ numbered (stepOf h (now s))
 
   abbrev Post : Val → SProp 𝓤
   Post = walkOf 𝓤 H A this.ended stayed (this.clauses 𝓤 H A at-mem run) .post (((κ, (κ′, tt)), (q, (q′, tt)), bounds, x, at), tt)

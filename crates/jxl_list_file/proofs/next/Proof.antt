@@ -2,7 +2,7 @@ use mathlib.Core.Path.{ap, _∙_}
 use native.Mathlib.Omega.{arith}
 use denote.Ref.{now}
 use Rattle.jxl_events.proofs.Shifted.{moved-fits}
-use Rattle.jxl_payloads.specs.Told.{told}
+use Rattle.jxl_payloads.proofs.Ruled.{ruled, by-rule}
 use Rattle.jxl_list_rules.proofs.Text.{far, shown-fits, wants-fits, refuses-fits}
 use borrow.Author.Needs.{needs}
 use Rattle.jxl_list_file.proofs.next.Statement.{statement}
@@ -27,13 +27,13 @@ moved-requires : tie.Need-moved-requires
 moved-requires c κs = search needs
 
 add-t19 : tie.Need-add-t19
-add-t19 c = omega (arith, shown-fits (c .before .before .before .before .before .before .before .args .parser) (now (c .before .before .before .before .before .before .before .args .file)) (c .before .before .before .before .before .before .before .args .at) (c .before .before .before .before .before .before .before .pre) (far (c .before .before .before .before .before .before .before .args .parser) (now (c .before .before .before .before .before .before .before .args .file)) (c .before .before .before .before .before .before .before .args .at) (c .before .before .before .before .before .before .before .pre) (c .before .before .before .before .step .ensures) (ap told (c .before .before .next .given .1))) .1)
+add-t19 c = omega (arith, shown-fits (c .before .before .before .before .before .before .before .args .parser) (now (c .before .before .before .before .before .before .before .args .file)) (c .before .before .before .before .before .before .before .args .at) (c .before .before .before .before .before .before .before .pre) (far (c .before .before .before .before .before .before .before .args .parser) (now (c .before .before .before .before .before .before .before .args .file)) (c .before .before .before .before .before .before .before .args .at) (c .before .before .before .before .before .before .before .pre) (by-rule (c .before .before .before .before .step .result) _ (c .before .before .before .before .step .ensures)) (ap ruled (c .before .before .next .given .1))) .1)
 
 enum-known-next-2 : tie.Need-enum-known-next-2
 enum-known-next-2 c = search needs
 
 add-t21 : tie.Need-add-t21
-add-t21 c = omega (arith, wants-fits (c .before .before .before .before .before .before .args .parser) (now (c .before .before .before .before .before .before .args .file)) (c .before .before .before .before .before .before .args .at) (c .before .before .before .before .before .before .pre) (far (c .before .before .before .before .before .before .args .parser) (now (c .before .before .before .before .before .before .args .file)) (c .before .before .before .before .before .before .args .at) (c .before .before .before .before .before .before .pre) (c .before .before .before .step .ensures) (ap told (c .before .next2 .given .1))))
+add-t21 c = omega (arith, wants-fits (c .before .before .before .before .before .before .args .parser) (now (c .before .before .before .before .before .before .args .file)) (c .before .before .before .before .before .before .args .at) (c .before .before .before .before .before .before .pre) (far (c .before .before .before .before .before .before .args .parser) (now (c .before .before .before .before .before .before .args .file)) (c .before .before .before .before .before .before .args .at) (c .before .before .before .before .before .before .pre) (by-rule (c .before .before .before .step .result) _ (c .before .before .before .step .ensures)) (ap ruled (c .before .next2 .given .1))))
 
 enum-known-next-3 : tie.Need-enum-known-next-3
 enum-known-next-3 c = search needs
@@ -42,16 +42,16 @@ refused-requires : tie.Need-refused-requires
 refused-requires c κs = search needs
 
 add-t23 : tie.Need-add-t23
-add-t23 c = omega (arith, refuses-fits (c .before .before .before .before .before .before .before .args .parser) (now (c .before .before .before .before .before .before .before .args .file)) (c .before .before .before .before .before .before .before .args .at) (c .before .before .before .before .before .before .before .pre) (far (c .before .before .before .before .before .before .before .args .parser) (now (c .before .before .before .before .before .before .before .args .file)) (c .before .before .before .before .before .before .before .args .at) (c .before .before .before .before .before .before .before .pre) (c .before .before .before .before .step .ensures) (ap told (c .before .before .next3 .given .1))))
+add-t23 c = omega (arith, refuses-fits (c .before .before .before .before .before .before .before .args .parser) (now (c .before .before .before .before .before .before .before .args .file)) (c .before .before .before .before .before .before .before .args .at) (c .before .before .before .before .before .before .before .pre) (far (c .before .before .before .before .before .before .before .args .parser) (now (c .before .before .before .before .before .before .before .args .file)) (c .before .before .before .before .before .before .before .args .at) (c .before .before .before .before .before .before .before .pre) (by-rule (c .before .before .before .before .step .result) _ (c .before .before .before .before .step .ensures)) (ap ruled (c .before .before .next3 .given .1))))
 
 returns : tie.Need-returns
-returns c = rw (far (c .before .before .before .before .before .before .before .args .parser) (now (c .before .before .before .before .before .before .before .args .file)) (c .before .before .before .before .before .before .before .args .at) (c .before .before .before .before .before .before .before .pre) (c .before .before .before .before .step .ensures) (ap told (c .before .before .next .given .1)), c .moved .ensures ∙ moved-fits (c .before .before .before .before .before .before .before .args .at) (c .before .before .next .given .0 .1 .1 .0) (omega (arith, shown-fits (c .before .before .before .before .before .before .before .args .parser) (now (c .before .before .before .before .before .before .before .args .file)) (c .before .before .before .before .before .before .before .args .at) (c .before .before .before .before .before .before .before .pre) (far (c .before .before .before .before .before .before .before .args .parser) (now (c .before .before .before .before .before .before .before .args .file)) (c .before .before .before .before .before .before .before .args .at) (c .before .before .before .before .before .before .before .pre) (c .before .before .before .before .step .ensures) (ap told (c .before .before .next .given .1))) .0)))
+returns c = rw (far (c .before .before .before .before .before .before .before .args .parser) (now (c .before .before .before .before .before .before .before .args .file)) (c .before .before .before .before .before .before .before .args .at) (c .before .before .before .before .before .before .before .pre) (by-rule (c .before .before .before .before .step .result) _ (c .before .before .before .before .step .ensures)) (ap ruled (c .before .before .next .given .1)), c .moved .ensures ∙ moved-fits (c .before .before .before .before .before .before .before .args .at) (c .before .before .next .given .0 .1 .1 .0) (omega (arith, shown-fits (c .before .before .before .before .before .before .before .args .parser) (now (c .before .before .before .before .before .before .before .args .file)) (c .before .before .before .before .before .before .before .args .at) (c .before .before .before .before .before .before .before .pre) (far (c .before .before .before .before .before .before .before .args .parser) (now (c .before .before .before .before .before .before .before .args .file)) (c .before .before .before .before .before .before .before .args .at) (c .before .before .before .before .before .before .before .pre) (by-rule (c .before .before .before .before .step .result) _ (c .before .before .before .before .step .ensures)) (ap ruled (c .before .before .next .given .1))) .0)))
 
 returns-2 : tie.Need-returns-2
-returns-2 c = rw (far (c .before .before .before .before .before .before .args .parser) (now (c .before .before .before .before .before .before .args .file)) (c .before .before .before .before .before .before .args .at) (c .before .before .before .before .before .before .pre) (c .before .before .before .step .ensures) (ap told (c .before .next2 .given .1)))
+returns-2 c = rw (far (c .before .before .before .before .before .before .args .parser) (now (c .before .before .before .before .before .before .args .file)) (c .before .before .before .before .before .before .args .at) (c .before .before .before .before .before .before .pre) (by-rule (c .before .before .before .step .result) _ (c .before .before .before .step .ensures)) (ap ruled (c .before .next2 .given .1)))
 
 returns-3 : tie.Need-returns-3
-returns-3 c = rw (far (c .before .before .before .before .before .before .before .args .parser) (now (c .before .before .before .before .before .before .before .args .file)) (c .before .before .before .before .before .before .before .args .at) (c .before .before .before .before .before .before .before .pre) (c .before .before .before .before .step .ensures) (ap told (c .before .before .next3 .given .1)), c .refused .ensures)
+returns-3 c = rw (far (c .before .before .before .before .before .before .before .args .parser) (now (c .before .before .before .before .before .before .before .args .file)) (c .before .before .before .before .before .before .before .args .at) (c .before .before .before .before .before .before .before .pre) (by-rule (c .before .before .before .before .step .result) _ (c .before .before .before .before .step .ensures)) (ap ruled (c .before .before .next3 .given .1)), c .refused .ensures)
 
 pub next-spec : {M : Type 1} → statement M
 next-spec =

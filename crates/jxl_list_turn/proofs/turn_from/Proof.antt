@@ -8,7 +8,7 @@ use borrow.Author.Needs.{needs}
 use Rattle.jxl_events.specs.Event.{shifted}
 use Rattle.jxl_events.proofs.Shifted.{moved-fits}
 use Rattle.jxl_grammar.specs.Step.{shows, wants, refuses, stepOf}
-use Rattle.jxl_payloads.specs.Told.{told}
+use Rattle.jxl_payloads.proofs.Ruled.{ruled, by-rule}
 use Rattle.jxl_grammar.specs.Feeding.{Seen}
 use Rattle.jxl_joiner.specs.declared.Joiner.{Joiner}
 use Rattle.jxl_lines.specs.Putting.{leaves}
@@ -34,7 +34,7 @@ shown : (c : tie.After-next Inv-loop μ-loop) → let t = c .before .before .bef
     let n = c .next .given .0 in stepOf (t .parser) (drop (t .consumed) (now (c .before .before .before .before .before .before .before .before .before .before .before .args .input))) ≡ shows (n .1 .1 .0) (n .0) (n .1 .0)
 shown c =
     let t = c .before .before .before .before .before .before .loop .t in
-    far (t .parser) (now (c .before .before .before .before .before .before .before .before .before .before .before .args .input)) (t .consumed) (c .before .before .before .before .before .before .loop .inv .inside) (c .before .before .step .ensures) (ap told (c .next .given .1))
+    far (t .parser) (now (c .before .before .before .before .before .before .before .before .before .before .before .args .input)) (t .consumed) (c .before .before .before .before .before .before .loop .inv .inside) (by-rule (c .before .before .step .result) _ (c .before .before .step .ensures)) (ap ruled (c .next .given .1))
 
 -- the event with its place in the file, which fits
 placed : (c : tie.After-moved Inv-loop μ-loop) → let n = c .before .before .next .given .0 in
@@ -49,13 +49,13 @@ wanted : (c : tie.After-next2 Inv-loop μ-loop) → let t = c .before .before .b
     let n = c .next2 .given .0 in stepOf (t .parser) (drop (t .consumed) (now (c .before .before .before .before .before .before .before .before .before .before .before .args .input))) ≡ wants (n .0) (n .1 .0)
 wanted c =
     let t = c .before .before .before .before .before .before .loop .t in
-    far (t .parser) (now (c .before .before .before .before .before .before .before .before .before .before .before .args .input)) (t .consumed) (c .before .before .before .before .before .before .loop .inv .inside) (c .before .before .step .ensures) (ap told (c .next2 .given .1))
+    far (t .parser) (now (c .before .before .before .before .before .before .before .before .before .before .before .args .input)) (t .consumed) (c .before .before .before .before .before .before .loop .inv .inside) (by-rule (c .before .before .step .result) _ (c .before .before .step .ensures)) (ap ruled (c .next2 .given .1))
 
 refused : (c : tie.After-next3 Inv-loop μ-loop) → let t = c .before .before .before .before .before .before .loop .t in
     let n = c .next3 .given .0 in stepOf (t .parser) (drop (t .consumed) (now (c .before .before .before .before .before .before .before .before .before .before .before .args .input))) ≡ refuses (n .1 .1 .0) (n .0) (n .1 .0)
 refused c =
     let t = c .before .before .before .before .before .before .loop .t in
-    far (t .parser) (now (c .before .before .before .before .before .before .before .before .before .before .before .args .input)) (t .consumed) (c .before .before .before .before .before .before .loop .inv .inside) (c .before .before .step .ensures) (ap told (c .next3 .given .1))
+    far (t .parser) (now (c .before .before .before .before .before .before .before .before .before .before .before .args .input)) (t .consumed) (c .before .before .before .before .before .before .loop .inv .inside) (by-rule (c .before .before .step .result) _ (c .before .before .step .ensures)) (ap ruled (c .next3 .given .1))
 
 -- where the loop starts
 started : (c : tie.After-after Inv-loop μ-loop) → let a = c .before .before .before .before .args in

@@ -5,6 +5,7 @@ use lib.ListN.{length}
 use denote.Ref.{now}
 use Rattle.jxl_grammar.proofs.Step.{far-index-wants, far-index-right, far-index-wrong}
 use borrow.Author.Tests.{ltb-true, ltb-false}
+use Rattle.jxl_grammar.specs.Naming.{numbered}
 use borrow.Author.Needs.{needs}
 use Rattle.jxl_payload_starts.proofs.index_step.Statement.{statement}
 use Rattle.jxl_payload_starts.proofs.index_step.Tie as tie
@@ -16,7 +17,7 @@ is-short-requires : tie.Need-is-short-requires
 is-short-requires c κs = search needs
 
 returns : tie.Need-returns
-returns c = rw (c .before .before .at .ensures) (sym (far-index-wants (now (c .before .before .before .before .args .s)) _ _ _ (ltb-true _ _ (sym (c .before .is-short .ensures) ∙ c .if1 .taken))))
+returns c = rw (c .before .before .at .ensures) (ap numbered (sym (far-index-wants (now (c .before .before .before .before .args .s)) _ _ _ (ltb-true _ _ (sym (c .before .is-short .ensures) ∙ c .if1 .taken)))))
 
 be32-at-requires : tie.Need-be32-at-requires
 be32-at-requires c κs = search needs
@@ -40,7 +41,7 @@ returns-2 : tie.Need-returns-2
 returns-2 c =
     c .code-step .ensures
     ∙ rw (c .before .before .before .row .ensures, c .before .before .less .ensures, c .before .to-end .ensures, c .before .before .before .before .before .be32-at .ensures)
-    (sym (far-index-right (now (c .before .before .before .before .before .before .before .before .before .before .args .s)) _ _ _ (ltb-false _ _ (sym (c .before .before .before .before .before .before .before .is-short .ensures) ∙ c .before .before .before .before .before .before .if1 .left)) (ap (λ (w : ℕ). w % 0x80000000) (sym (c .before .before .before .before .before .be32-at .ensures)) ∙ c .before .before .before .before .if2 .taken)))
+    (ap numbered (sym (far-index-right (now (c .before .before .before .before .before .before .before .before .before .before .args .s)) _ _ _ (ltb-false _ _ (sym (c .before .before .before .before .before .before .before .is-short .ensures) ∙ c .before .before .before .before .before .before .if1 .left)) (ap (λ (w : ℕ). w % 0x80000000) (sym (c .before .before .before .before .before .be32-at .ensures)) ∙ c .before .before .before .before .if2 .taken))))
 
 add-refuse : tie.Need-add-refuse
 add-refuse c = omega (arith, ltb-false (length (now (c .before .before .before .before .before .before .args .s)) - c .before .before .before .before .before .before .args .at) 4 (sym (c .before .before .before .is-short .ensures) ∙ c .before .before .if1 .left))
@@ -52,7 +53,7 @@ returns-3 : tie.Need-returns-3
 returns-3 c =
     c .refuse .ensures
     ∙ rw (c .before .before .before .before .before .at .ensures, c .before .before .be32-at .ensures)
-    (sym (far-index-wrong (now (c .before .before .before .before .before .before .before .args .s)) _ _ _ (ltb-false _ _ (sym (c .before .before .before .before .is-short .ensures) ∙ c .before .before .before .if1 .left)) (rw (c .before .before .be32-at .ensures) at (c .before .if2 .left))))
+    (ap numbered (sym (far-index-wrong (now (c .before .before .before .before .before .before .before .args .s)) _ _ _ (ltb-false _ _ (sym (c .before .before .before .before .is-short .ensures) ∙ c .before .before .before .if1 .left)) (rw (c .before .before .be32-at .ensures) at (c .before .if2 .left)))))
 
 pub index-step-spec : {M : Type 1} → statement M
 index-step-spec =

@@ -6,6 +6,7 @@ use denote.Ref.{now}
 use Rattle.jxl_headers.specs.Types.{reserved}
 use Rattle.jxl_grammar.proofs.Step.{far-inner-wants, far-inner-reserved, far-inner-shows}
 use borrow.Author.Tests.{ltb-true, ltb-false}
+use Rattle.jxl_grammar.specs.Naming.{numbered}
 use borrow.Author.Needs.{needs}
 use Rattle.jxl_payload_starts.proofs.inner_step.Statement.{statement}
 use Rattle.jxl_payload_starts.proofs.inner_step.Tie as tie
@@ -17,7 +18,7 @@ is-short-requires : tie.Need-is-short-requires
 is-short-requires c κs = search needs
 
 returns : tie.Need-returns
-returns c = rw (c .before .before .at .ensures) (sym (far-inner-wants (now (c .before .before .before .before .args .s)) _ _ _ (ltb-true _ _ (sym (c .before .is-short .ensures) ∙ c .if1 .taken))))
+returns c = rw (c .before .before .at .ensures) (ap numbered (sym (far-inner-wants (now (c .before .before .before .before .args .s)) _ _ _ (ltb-true _ _ (sym (c .before .is-short .ensures) ∙ c .if1 .taken)))))
 
 be32-at-requires : tie.Need-be32-at-requires
 be32-at-requires c κs = search needs
@@ -35,7 +36,7 @@ returns-2 : tie.Need-returns-2
 returns-2 c =
     c .refuse .ensures
     ∙ rw (c .before .before .before .before .before .before .at .ensures)
-    (sym (far-inner-reserved (now (c .before .before .before .before .before .before .before .before .args .s)) _ _ _ (ltb-false _ _ (sym (c .before .before .before .before .before .is-short .ensures) ∙ c .before .before .before .before .if1 .left)) (sym (ap reserved (c .before .before .before .be32-at .ensures)) ∙ sym (c .before .before .is-reserved .ensures) ∙ c .before .if2 .taken)))
+    (ap numbered (sym (far-inner-reserved (now (c .before .before .before .before .before .before .before .before .args .s)) _ _ _ (ltb-false _ _ (sym (c .before .before .before .before .before .is-short .ensures) ∙ c .before .before .before .before .if1 .left)) (sym (ap reserved (c .before .before .before .be32-at .ensures)) ∙ sym (c .before .before .is-reserved .ensures) ∙ c .before .if2 .taken))))
 
 less-requires : tie.Need-less-requires
 less-requires c κs = search needs
@@ -52,7 +53,7 @@ add-t17 c = omega (arith, ltb-false (length (now (c .before .before .before .bef
 returns-3 : tie.Need-returns-3
 returns-3 c =
     rw (c .at2 .ensures, c .before .to-end .ensures, c .before .before .less .ensures, c .before .before .before .before .before .be32-at .ensures)
-    (sym (far-inner-shows (now (c .before .before .before .before .before .before .before .before .before .before .args .s)) _ _ _ (ltb-false _ _ (sym (c .before .before .before .before .before .before .before .is-short .ensures) ∙ c .before .before .before .before .before .before .if1 .left)) (sym (ap reserved (c .before .before .before .before .before .be32-at .ensures)) ∙ sym (c .before .before .before .before .is-reserved .ensures) ∙ c .before .before .before .if2 .left)))
+    (ap numbered (sym (far-inner-shows (now (c .before .before .before .before .before .before .before .before .before .before .args .s)) _ _ _ (ltb-false _ _ (sym (c .before .before .before .before .before .before .before .is-short .ensures) ∙ c .before .before .before .before .before .before .if1 .left)) (sym (ap reserved (c .before .before .before .before .before .be32-at .ensures)) ∙ sym (c .before .before .before .before .is-reserved .ensures) ∙ c .before .before .before .if2 .left))))
 
 pub inner-step-spec : {M : Type 1} → statement M
 inner-step-spec =
