@@ -75,14 +75,17 @@ pub(crate) fn event(out: &mut [u8], to: usize, shown: ParseEvent, base: usize) -
     }
 }
 
-// Puts a refusal by its number in document 01: 10 to 19 are merged into 1, since the Rust does not tell them apart.
+// Puts a refusal: its number, and of a wrong index the one expected and the one found.
 pub(crate) fn refusal(out: &mut [u8], to: usize, told: BoxRefusal) -> usize {
     let next = start(out, to, b'R');
-    let number = told.number();
-    if number < 10 {
-        replay_text::put_decimal(out, next, number as u64)
+    let number = replay_text::put_decimal(out, next, told.number() as u64);
+    if let BoxRefusal::WrongIndex { found, expected } = told {
+        let first = replay_text::put_byte(out, number, b',');
+        let second = replay_text::put_decimal(out, first, expected);
+        let third = replay_text::put_byte(out, second, b',');
+        replay_text::put_decimal(out, third, found as u64)
     } else {
-        replay_text::put_byte(out, next, b'1')
+        number
     }
 }
 

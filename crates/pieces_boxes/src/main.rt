@@ -1,6 +1,6 @@
 // Runs pieces of the format: each line of the list is a record and a file in hex. The record is given nothing, then the file;
-// if it refuses, the file again and nothing. Prints a line for each: the answers, with document 01's numbers, then the record's kind and
-// codestream boxes, and of a refused record which rule broke.
+// if it refuses, the file again and nothing. Prints a line for each: the answers, then the record's kind and codestream boxes, and of
+// a refused record its refusal's text.
 use box_answers::feed;
 use jxl_record::ContainerParser;
 use jxl_record::DetectState;
@@ -10,11 +10,9 @@ use jxl_refusals::BoxRefusal;
 
 mod record;
 
-// Prints a refusal's number, and its text as the library puts it.
+// Prints a refusal's text as the library puts it.
 fn print_refusal(refusal: BoxRefusal) {
     let mut text = [0u8; 64];
-    io::write_all(1, b" refusal ");
-    io::print_decimal(1, refusal.number() as u64);
     io::write_all(1, b": ");
     if let Put::Written(n) = jxl_refusal_text::put_refusal(&mut text, 0, refusal) {
         io::write_all(1, jxl_slices::part(&text, 0, n));
