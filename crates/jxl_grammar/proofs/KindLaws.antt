@@ -10,7 +10,6 @@ use lib.ListN.{length, drop}
 use borrow.Author.Tests.{ltb-true, ltb-false, eqb-true, eqb-false}
 use Rattle.jxl_headers.specs.Bytes.{if, be32}
 use Rattle.jxl_refusals.specs.declared.BoxRefusal.{BoxRefusal}
-use Rattle.jxl_refusals.specs.declared.BoxRefusal.the-variants.{JxlpTooSmall, BrobTooSmall}
 use Rattle.jxl_reach.specs.Reach.{under, less, toEnd}
 use Rattle.jxl_record.specs.Record.{at, kindIn, kindOf, fresh, impossible, isRefused}
 use Rattle.jxl_headers.specs.Header.{Header, short, bad, box, headerOf}
@@ -146,8 +145,8 @@ stays-box j t l s = go (eqb t jxlc) refl (eqb t jxlp) refl (eqb t brob) refl
   where
     go : (u : Bool) → eqb t jxlc ≡ u → (v : Bool) → eqb t jxlp ≡ v → (w : Bool) → eqb t brob ≡ w → Stays K.Container (boxStep j t l s)
     go true e v f w g = rw (box-jxlc j t l s (eqb-true t jxlc e)) (stays-jxlc j l s)
-    go false e true f w g = rw (box-jxlp j t l s (eqb-true t jxlp f)) (stays-sized (under 4 l) JxlpTooSmall j (jxlpNext j l s) (stays-next j l s))
-    go false e false f true g = rw (box-brob j t l s (eqb-true t brob g)) (stays-sized (under 4 l) BrobTooSmall j (innerStep j l s) (stays-inner j l s))
+    go false e true f w g = rw (box-jxlp j t l s (eqb-true t jxlp f)) (stays-sized (under 4 l) _ j (jxlpNext j l s) (stays-next j l s))
+    go false e false f true g = rw (box-brob j t l s (eqb-true t brob g)) (stays-sized (under 4 l) _ j (innerStep j l s) (stays-inner j l s))
     go false e false f false g = rw (box-aux j t l s (eqb-false t jxlc e) (eqb-false t jxlp f) (eqb-false t brob g)) refl
 
 stays-header : (j : JxlpIndexState) (s : List ℕ) (h : Header) → Stays K.Container (headerStep j s h)

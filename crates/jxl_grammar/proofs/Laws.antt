@@ -32,7 +32,6 @@ use Rattle.jxl_record.specs.declared.DetectState.{DetectState}
 use Rattle.jxl_record.specs.declared.DetectState.the-variants as S
 use Rattle.jxl_record.specs.declared.ContainerParser.{ContainerParser}
 use Rattle.jxl_refusals.specs.declared.BoxRefusal.{BoxRefusal}
-use Rattle.jxl_refusals.specs.declared.BoxRefusal.the-variants.{SecondJxlc, JxlcAfterJxlp, JxlpTooSmall, JxlpAfterJxlc, JxlpAfterLast, WrongIndex, BrobTooSmall, ImpossibleRecord, ValidationFailed}
 use Rattle.jxl_events.specs.declared.ParseEvent.{ParseEvent}
 use Rattle.jxl_events.specs.declared.ParseEvent.the-variants as E
 
@@ -104,7 +103,7 @@ kept-index i l s = go (ltb (length s) 4) refl (eqb (be32 s 0 % 0x80000000) i) re
         (kept-ahead 4 s (codeStep (row (be32 s 0) i) K.Container (less l 4) (toEnd l) (drop 4 s)) h (kept-code (row (be32 s 0) i) K.Container (less l 4) (toEnd l) (drop 4 s)))
     go false e false f =
         let h = ltb-false (length s) 4 e in
-        rw (index-wrong i l s h (eqb-false (be32 s 0 % 0x80000000) i f)) (kept-refuse (WrongIndex (be32 s 0 % 0x80000000) i) (at (S.WaitingJxlpIndex l) (Jxlp i)) 4 (length s) h)
+        rw (index-wrong i l s h (eqb-false (be32 s 0 % 0x80000000) i f)) (kept-refuse _ (at (S.WaitingJxlpIndex l) (Jxlp i)) 4 (length s) h)
 
 kept-inner : (j : JxlpIndexState) (l : BytesLeft) (s : List ℕ) → Kept (length s) (innerStep j l s)
 kept-inner j l s = go (ltb (length s) 4) refl (reserved (be32 s 0)) refl
@@ -113,7 +112,7 @@ kept-inner j l s = go (ltb (length s) 4) refl (reserved (be32 s 0)) refl
     go true e u f = rw (inner-wants j l s (ltb-true (length s) 4 e)) (omega arith, omega (arith, ltb-true (length s) 4 e))
     go false e true f =
         let h = ltb-false (length s) 4 e in
-        rw (inner-reserved j l s h f) (kept-refuse ValidationFailed (at (S.WaitingInnerType l) j) 4 (length s) h)
+        rw (inner-reserved j l s h f) (kept-refuse _ (at (S.WaitingInnerType l) j) 4 (length s) h)
     go false e false f = rw (inner-shows j l s (ltb-false (length s) 4 e) f) (ltb-false (length s) 4 e, tt)
 
 kept-none : (r : BoxRefusal) (p : ContainerParser) (s : List ℕ) → Kept (length s) (refuse r p 0)
@@ -121,15 +120,15 @@ kept-none r p s = kept-refuse r p 0 (length s) (omega arith)
 
 kept-jxlc : (j : JxlpIndexState) (l : BytesLeft) (s : List ℕ) → Kept (length s) (jxlcStep j l s)
 kept-jxlc Initial l s = kept-code SingleJxlc K.Container l (toEnd l) s
-kept-jxlc SingleJxlc l s = kept-none SecondJxlc (at S.WaitingBoxHeader SingleJxlc) s
-kept-jxlc (Jxlp i) l s = kept-none JxlcAfterJxlp (at S.WaitingBoxHeader (Jxlp i)) s
-kept-jxlc JxlpFinished l s = kept-none JxlcAfterJxlp (at S.WaitingBoxHeader JxlpFinished) s
+kept-jxlc SingleJxlc l s = kept-none _ (at S.WaitingBoxHeader SingleJxlc) s
+kept-jxlc (Jxlp i) l s = kept-none _ (at S.WaitingBoxHeader (Jxlp i)) s
+kept-jxlc JxlpFinished l s = kept-none _ (at S.WaitingBoxHeader JxlpFinished) s
 
 kept-next : (j : JxlpIndexState) (l : BytesLeft) (s : List ℕ) → Kept (length s) (jxlpNext j l s)
 kept-next Initial l s = kept-index 0 l s
-kept-next SingleJxlc l s = kept-none JxlpAfterJxlc (at S.WaitingBoxHeader SingleJxlc) s
+kept-next SingleJxlc l s = kept-none _ (at S.WaitingBoxHeader SingleJxlc) s
 kept-next (Jxlp i) l s = kept-index (i + 1) l s
-kept-next JxlpFinished l s = kept-none JxlpAfterLast (at S.WaitingBoxHeader JxlpFinished) s
+kept-next JxlpFinished l s = kept-none _ (at S.WaitingBoxHeader JxlpFinished) s
 
 -- a rule, or the refusal of a payload under 4
 kept-sized : (r : BoxRefusal) (j : JxlpIndexState) (l : BytesLeft) (s : List ℕ) (t : Told) → Kept (length s) t
@@ -145,8 +144,8 @@ kept-box j t l s = go (eqb t jxlc) refl (eqb t jxlp) refl (eqb t brob) refl
   where
     go : (u : Bool) → eqb t jxlc ≡ u → (v : Bool) → eqb t jxlp ≡ v → (w : Bool) → eqb t brob ≡ w → Kept (length s) (boxStep j t l s)
     go true e v f w g = rw (box-jxlc j t l s (eqb-true t jxlc e)) (kept-jxlc j l s)
-    go false e true f w g = rw (box-jxlp j t l s (eqb-true t jxlp f)) (kept-sized JxlpTooSmall j l s (jxlpNext j l s) (kept-next j l s))
-    go false e false f true g = rw (box-brob j t l s (eqb-true t brob g)) (kept-sized BrobTooSmall j l s (innerStep j l s) (kept-inner j l s))
+    go false e true f w g = rw (box-jxlp j t l s (eqb-true t jxlp f)) (kept-sized _ j l s (jxlpNext j l s) (kept-next j l s))
+    go false e false f true g = rw (box-brob j t l s (eqb-true t brob g)) (kept-sized _ j l s (innerStep j l s) (kept-inner j l s))
     go false e false f false g = rw (box-aux j t l s (eqb-false t jxlc e) (eqb-false t jxlp f) (eqb-false t brob g)) (omega arith, tt)
 
 kept-header : (j : JxlpIndexState) (s : List ℕ) (h : Header) → headerOf s ≡ h → Kept (length s) (headerStep j s h)
@@ -175,5 +174,5 @@ every-step p s = go s (isRefused p) refl (impossible p) refl
     go : (s : List ℕ) (t : Bool) → isRefused p ≡ t → (u : Bool) → impossible p ≡ u → Kept (length s) (stepOf p s)
     go [] true r u i = rw (step-empty-refused p r) (kept-state (p .state) (p .jxlp) [])
     go [] false r u i = rw (step-empty p r) (omega arith, omega arith)
-    go (x ∷ s) t r true i = rw (step-impossible p (x ∷ s) (omega arith) i) (kept-none ImpossibleRecord p (x ∷ s))
+    go (x ∷ s) t r true i = rw (step-impossible p (x ∷ s) (omega arith) i) (kept-none _ p (x ∷ s))
     go (x ∷ s) t r false i = rw (step-state p (x ∷ s) (omega arith) i) (kept-state (p .state) (p .jxlp) (x ∷ s))
