@@ -1,4 +1,4 @@
-// A record made anew field by field, which a step takes it through first: it keeps the step quick, and changes nothing.
+// A record rebuilt field by field, which a step does first: it changes nothing, and is quicker than a plain copy.
 use jxl_headers::BytesLeft;
 use jxl_record::ContainerParser;
 use jxl_record::DetectState;
