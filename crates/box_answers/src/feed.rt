@@ -65,6 +65,19 @@ fn kind_after(event: ParseEvent, before: BitstreamKind) -> BitstreamKind {
     }
 }
 
+// Puts an event of a step on `input`, which stands at `base` in the file, and a mark where its payload is not that part of the file.
+fn shown(
+    out: &mut [u8],
+    to: usize,
+    file: &[u8],
+    base: usize,
+    input: &[u8],
+    event: ParseEvent,
+) -> usize {
+    let next = answer::event(out, to, event, base);
+    answer::rule(out, next, is_payload(file, base, input, event))
+}
+
 // A feed as a step leaves it: `consumed` bytes further on than `base`.
 fn stepped(
     parser: ContainerParser,
@@ -98,14 +111,13 @@ fn turn(out: &mut [u8], file: &[u8], end: usize, feed: Feed) -> Feed {
             next,
             consumed,
         } => {
-            let shown = answer::event(out, to, event, base);
-            let kept = answer::rule(out, shown, is_payload(file, base, input, event));
+            let behind = shown(out, to, file, base, input, event);
             stepped(
                 next,
                 base,
                 consumed,
                 kind_after(event, told),
-                kept,
+                behind,
                 false,
                 false,
             )
@@ -116,8 +128,8 @@ fn turn(out: &mut [u8], file: &[u8], end: usize, feed: Feed) -> Feed {
             next,
             consumed,
         } => {
-            let shown = answer::refusal(out, to, refusal);
-            stepped(next, base, consumed, told, shown, true, true)
+            let behind = answer::refusal(out, to, refusal);
+            stepped(next, base, consumed, told, behind, true, true)
         }
     }
 }

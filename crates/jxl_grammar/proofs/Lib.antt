@@ -10,6 +10,3 @@ pub mod Listed
 pub mod Theorems
 pub mod Naming
 pub mod Caught
-pub mod Payloads
-pub mod Joining
-pub mod KindLaws

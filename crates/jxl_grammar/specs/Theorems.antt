@@ -3,14 +3,12 @@
 use mathlib.Core.Path.{_≡_}
 use mathlib.Core.Bool.{false}
 use mathlib.Core.List.{List, [], _∷_}
-use Prim.Native.Nat.{ℕ, _+_, _/_, _<_, _≤_, _^_}
+use Prim.Native.Nat.{ℕ, _+_, _/_, _≤_}
 use lib.ListN.{length}
 use Rattle.jxl_refusals.specs.Refusals.{Why, Naming, why, inDocument01, merged}
-use Rattle.jxl_refusals.specs.declared.BoxRefusal.{BoxRefusal}
 use Rattle.jxl_refusals.specs.declared.BoxRefusal.the-variants.{ImpossibleRecord}
-use Rattle.jxl_record.specs.Record.{fresh, isRefused, kindOf}
+use Rattle.jxl_record.specs.Record.{fresh, isRefused}
 use Rattle.jxl_grammar.specs.Step.{Told, shows, wants, refuses, stepOf}
-use Rattle.jxl_record.specs.declared.BitstreamKind.{BitstreamKind}
 use Rattle.jxl_record.specs.declared.BitstreamKind.the-variants as K
 use Rattle.jxl_record.specs.declared.DetectState.the-variants as S
 use Rattle.jxl_record.specs.declared.ContainerParser.{ContainerParser}
@@ -23,9 +21,7 @@ pub use Rattle.jxl_cuts.specs.Theorems.{All}
 use Rattle.jxl_grammar.specs.Parser.{parserBy, parser}
 use Rattle.jxl_grammar.specs.Grammar.{want, ListingBy, Listing, file}
 use Rattle.jxl_grammar.specs.Naming.{toldAs, stopAs, listingAs, stepBy, fileBy}
-use Rattle.jxl_joiner.specs.Joiner.{run, AllCounted}
 use Rattle.jxl_grammar.specs.Feeding.{Shown, Seen, events, taking, take, joined, feeding, bytesOf, Takes}
-use Rattle.jxl_joiner.specs.declared.MaybeEvent.the-variants.{None}
 
 -- what was seen of a parser that steps so, as a listing
 abbrev pub listing : {step : ContainerParser → List ℕ → Told} → Any.Seen (parserBy step) → Listing
@@ -147,33 +143,3 @@ EndsByItself = (p : ContainerParser) (at : ℕ) (s : List ℕ) → (u : List ℕ
 -- and so there is one thing that taking comes to
 abbrev pub OneWay : Type 0
 OneWay = (p : ContainerParser) (at : ℕ) (s : List ℕ) (r : Seen) (u : List ℕ) → Takes p at s r u → take p at s ≡ r
-
--- the kind that the first KIND tells; unknown before it
-abbrev pub kindTold : List ParseEvent → BitstreamKind
-kindTold [] = K.Unknown
-kindTold (E.BitstreamKind k ∷ es) = k
-kindTold (E.NoMoreAuxBox ∷ es) = kindTold es
-kindTold (E.Codestream a n ∷ es) = kindTold es
-kindTold (E.AuxBoxStart t b e ∷ es) = kindTold es
-kindTold (E.AuxBoxData t a n ∷ es) = kindTold es
-kindTold (E.AuxBoxEnd t ∷ es) = kindTold es
-
--- kind: of a fresh parser fed any packets, the kind told on request is unknown before KIND, then KIND's
-abbrev pub KindIsTold : Type 0
-KindIsTold = (xs : List (List ℕ)) → kindOf (feeding fresh 0 xs .next) ≡ kindTold (events (feeding fresh 0 xs))
-
--- and so the one that the grammar lists of the file
-abbrev pub KindOfAFile : Type 0
-KindOfAFile = (xs : List (List ℕ)) → kindOf (feeding fresh 0 xs .next) ≡ kindTold (file (bytesOf xs) .events)
-
--- a refusal leaves the kind what it was; from any record, one that no file leads to as well
-abbrev pub RefusalKeepsKind : Type 0
-RefusalKeepsKind = (p : ContainerParser) (s : List ℕ) (w : BoxRefusal) (q : ContainerParser) (c : ℕ) → stepOf p s ≡ refuses w q c → kindOf q ≡ kindOf p
-
--- joiner: of events whose ends 64 bits can count, it hands back the joined ones
-abbrev pub JoinerJoins : Type 0
-JoinerJoins = (es : List ParseEvent) → AllCounted es → run None es ≡ joined es
-
--- and so, of a file under 2^64 bytes cut in any packets, exactly what the grammar lists
-abbrev pub JoinerListsTheFile : Type 0
-JoinerListsTheFile = (xs : List (List ℕ)) → length (bytesOf xs) < 2 ^ 64 → run None (events (feeding fresh 0 xs)) ≡ file (bytesOf xs) .events

@@ -1,4 +1,2 @@
-pub mod Sizes
-pub mod Different
 pub mod Places
 pub mod Unique

@@ -1,4 +1,4 @@
-// The text of a refusal, put into a lent buffer, for a fault log. The texts stand in specs/Text.antt.
+// The text of a refusal, put into a lent buffer, for a fault log. The texts stand in specs/Text.antt of jxl_refusal_words.
 pub use jxl_lines::Put;
 use jxl_listing::put_number;
 use jxl_listing::put_words;
@@ -11,7 +11,7 @@ ghost use Rattle.jxl_lines.specs.Digits.{decimal};
 ghost use Rattle.jxl_lines.specs.Pasting.{Pasted};
 ghost use Rattle.jxl_lines.specs.Putting.{leaves, putOf};
 ghost use Rattle.jxl_refusal_text.specs.Place.{placeOf};
-ghost use Rattle.jxl_refusal_text.specs.Text.{text};
+ghost use Rattle.jxl_refusal_words.specs.Text.{text};
 
 // Where the next byte goes, of bytes for which there was room.
 fn place(put: Put) -> usize

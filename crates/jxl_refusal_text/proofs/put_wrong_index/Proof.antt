@@ -1,6 +1,6 @@
 use native.Mathlib.Omega.{arith}
 use Rattle.jxl_lines.proofs.Putting.{no-room}
-use Rattle.jxl_refusal_text.proofs.Sizes.{wrong-index-size}
+use Rattle.jxl_refusal_words.proofs.Sizes.{wrong-index-size}
 use borrow.Author.Needs.{needs}
 use Rattle.jxl_refusal_text.proofs.put_wrong_index.Statement.{statement}
 use Rattle.jxl_refusal_text.proofs.put_wrong_index.Tie as tie

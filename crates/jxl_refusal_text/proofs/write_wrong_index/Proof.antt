@@ -2,9 +2,9 @@ use mathlib.Core.Path.{refl, _∙_}
 use mathlib.Core.List.{append-assoc}
 use native.Mathlib.Omega.{arith}
 use Rattle.jxl_lines.proofs.Bytes.{pasted-then}
-use Rattle.jxl_refusal_text.specs.Text.{expectedWord}
+use Rattle.jxl_refusal_words.specs.Text.{expectedWord}
 use Rattle.jxl_refusal_text.proofs.Places.{put-last}
-use Rattle.jxl_refusal_text.proofs.Sizes.{wrong-index-size}
+use Rattle.jxl_refusal_words.proofs.Sizes.{wrong-index-size}
 use Rattle.jxl_refusal_text.proofs.write_wrong_index.Statement.{statement}
 use Rattle.jxl_refusal_text.proofs.write_wrong_index.Tie as tie
 

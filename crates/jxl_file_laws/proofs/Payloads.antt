@@ -9,11 +9,12 @@ use Rattle.jxl_events.specs.Event.{payload}
 use Rattle.jxl_events.specs.declared.ParseEvent.{ParseEvent}
 use Rattle.jxl_events.specs.declared.ParseEvent.the-variants as E
 use Rattle.jxl_cuts.specs.Machine.{Inside}
 use Rattle.jxl_grammar.specs.Feeding.{Shown, events, eventsIn, feeding, bytesOf}
-use Rattle.jxl_grammar.specs.Theorems.{Right, All, JoinerListsTheFile}
+use Rattle.jxl_grammar.specs.Theorems.{Right, All}
+use Rattle.jxl_file_laws.specs.Theorems.{JoinerListsTheFile}
 use Rattle.jxl_joiner.specs.Joiner.{Counted, AllCounted}
 use Rattle.jxl_grammar.proofs.Theorems.{bytes-shown, every-cut-of-a-file}
-use Rattle.jxl_grammar.proofs.Joining.{joiner-joins}
+use Rattle.jxl_file_laws.proofs.Joining.{joiner-joins}
 
 -- an event inside a file that 64 bits can count
 inside-counted : (n : ℕ) (e : ParseEvent) → n < 2 ^ 64 → Inside (payload e) n → Counted e

@@ -10,8 +10,8 @@ use borrow.Author.Tests.{ltb-true, ltb-false}
 use Rattle.jxl_refusals.specs.declared.BoxRefusal.the-variants.{ShortSize, ExtendedSize, SecondJxlc, JxlcAfterJxlp, JxlpTooSmall, JxlpAfterJxlc, JxlpAfterLast, WrongIndex, BrobTooSmall, ImpossibleRecord, ValidationFailed}
 use Rattle.jxl_lines.specs.Digits.{decimal}
 use Rattle.jxl_lines.proofs.Numbers.{decimal-small, decimal-longer, decimal-most}
-use Rattle.jxl_refusal_text.specs.Text.{text}
-use Rattle.jxl_refusal_text.specs.Theorems.{MostBytes}
+use Rattle.jxl_refusal_words.specs.Text.{text}
+use Rattle.jxl_refusal_words.specs.Theorems.{MostBytes}
 
 -- a number below the power 10 ^ k has at most k digits, and any number has one
 digits-most : (k n : ℕ) → n < 10 ^ suc k → length (decimal n) ≤ suc k

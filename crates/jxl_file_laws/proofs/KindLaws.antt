@@ -32,11 +32,11 @@ use Rattle.jxl_record.specs.declared.ContainerParser.{ContainerParser}
 use Rattle.jxl_events.specs.declared.ParseEvent.{ParseEvent}
 use Rattle.jxl_events.specs.declared.ParseEvent.the-variants as E
 use Rattle.jxl_joiner.specs.Joined.{codeAt, auxAt}
 use Rattle.jxl_grammar.specs.Feeding.{before, joined, Seen, events, feeding, bytesOf, Takes, more, waits, ends}
-use Rattle.jxl_grammar.specs.Theorems.{kindTold, KindIsTold, KindOfAFile, RefusalKeepsKind}
+use Rattle.jxl_file_laws.specs.Theorems.{kindTold, KindIsTold, KindOfAFile, RefusalKeepsKind}
 use Rattle.jxl_base.proofs.Never.{never}
 use Rattle.jxl_grammar.proofs.Taking.{takes}
 use Rattle.jxl_grammar.proofs.Theorems.{whole-feed, every-cut, every-cut-of-a-file}
 
 -- only a container's codestream payload ends
 abbrev MayEnd : BitstreamKind → BytesLeft → Type 0

@@ -12,9 +12,9 @@ use Rattle.jxl_events.specs.declared.ParseEvent.{ParseEvent}
 use Rattle.jxl_events.specs.declared.ParseEvent.the-variants as E
 use Rattle.jxl_joiner.specs.Joined.{codeAt, auxAt, joins, longer}
 use Rattle.jxl_events.specs.Event.{lengthOf, endOf}
 use Rattle.jxl_grammar.specs.Feeding.{before, joined}
 use Rattle.jxl_joiner.specs.Joiner.{run, Counted, AllCounted}
-use Rattle.jxl_grammar.specs.Theorems.{JoinerJoins}
+use Rattle.jxl_file_laws.specs.Theorems.{JoinerJoins}
 use Rattle.jxl_joiner.specs.declared.MaybeEvent.the-variants.{Some}
 use Rattle.jxl_base.proofs.Never.{never}
 use Rattle.jxl_headers.proofs.And.{and-first, and-second}

@@ -14,8 +14,8 @@ use Rattle.jxl_refusals.specs.declared.BoxRefusal.the-variants.{ShortSize, Exte
 use Rattle.jxl_lines.specs.Digits.{glyph, decimal}
 use Rattle.jxl_lines.proofs.Numbers.{decimal-small, decimal-more}
 use Rattle.jxl_lines.proofs.Values.{value, decimal-value}
-use Rattle.jxl_refusal_text.specs.Text.{text}
-use Rattle.jxl_refusal_text.specs.Theorems.{NoTwoAlike}
+use Rattle.jxl_refusal_words.specs.Text.{text}
+use Rattle.jxl_refusal_words.specs.Theorems.{NoTwoAlike}
 
 -- up to the first space, which is character 32
 abbrev word : List ℕ → List ℕ
