@@ -5,9 +5,9 @@ use mathlib.Core.List.{List, [], _∷_}
 use Prim.Native.Nat.{ℕ}
 use borrow.Author.Tests.{eqb-true}
 use Rattle.jxl_headers.specs.Bytes.{if, and, or, starts}
-use Rattle.jxl_headers.specs.Signature.{codestreamSig, containerSig, signatureOf}
-use Rattle.jxl_headers.specs.declared.consts.Signature.{Signature}
-use Rattle.jxl_headers.specs.declared.consts.Signature.the-variants as G
+use Rattle.jxl_signatures.specs.Signature.{codestreamSig, containerSig, signatureOf}
+use Rattle.jxl_signatures.specs.declared.Signature.{Signature}
+use Rattle.jxl_signatures.specs.declared.Signature.the-variants as G
 use Rattle.jxl_record.specs.Record.{fresh, kindOf}
 use Rattle.jxl_record.specs.declared.BitstreamKind.{BitstreamKind}
 use Rattle.jxl_record.specs.declared.BitstreamKind.the-variants as K

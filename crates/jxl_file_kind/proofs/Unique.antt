@@ -1,7 +1,7 @@
 -- Two answers that meet a promise are equal.
 use Rattle.jxl_base.proofs.OneAnswer.{one-named}
 use Rattle.jxl_headers.specs.Bytes.{starts}
-use Rattle.jxl_headers.specs.Signature.{containerSig}
+use Rattle.jxl_signatures.specs.Signature.{containerSig}
 use Rattle.jxl_file_kind.specs.FileKind.{kindOfFile}
 use Rattle.jxl_file_kind.specs.Theorems.{OneIsContainer, OneKindOfFile}
 

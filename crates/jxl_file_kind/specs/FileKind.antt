@@ -1,9 +1,9 @@
 -- The kind of a file, by its signature.
 use mathlib.Core.List.{List}
 use Prim.Native.Nat.{ℕ}
-use Rattle.jxl_headers.specs.Signature.{signatureOf}
-use Rattle.jxl_headers.specs.declared.consts.Signature.{Signature}
-use Rattle.jxl_headers.specs.declared.consts.Signature.the-variants as G
+use Rattle.jxl_signatures.specs.Signature.{signatureOf}
+use Rattle.jxl_signatures.specs.declared.Signature.{Signature}
+use Rattle.jxl_signatures.specs.declared.Signature.the-variants as G
 use Rattle.jxl_record.specs.declared.BitstreamKind.{BitstreamKind}
 use Rattle.jxl_record.specs.declared.BitstreamKind.the-variants as K
 

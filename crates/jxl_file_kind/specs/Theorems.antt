@@ -4,7 +4,7 @@ use mathlib.Core.List.{List}
 use Prim.Native.Nat.{ℕ}
 use Rattle.jxl_base.specs.OneAnswer.{OneAnswer}
 use Rattle.jxl_headers.specs.Bytes.{starts}
-use Rattle.jxl_headers.specs.Signature.{containerSig}
+use Rattle.jxl_signatures.specs.Signature.{containerSig}
 use Rattle.jxl_file_kind.specs.FileKind.{kindOfFile}
 
 abbrev pub OneKindOfFile : Type 0

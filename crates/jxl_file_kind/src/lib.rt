@@ -3,7 +3,7 @@ use jxl_container::BitstreamKind;
 use jxl_container::ContainerParser;
 ghost use mathlib.Core.Path.{_≡_};
 ghost use Rattle.jxl_headers.specs.Bytes.{starts};
-ghost use Rattle.jxl_headers.specs.Signature.{containerSig};
+ghost use Rattle.jxl_signatures.specs.Signature.{containerSig};
 ghost use Rattle.jxl_file_kind.specs.FileKind.{kindOfFile};
 
 // The kind of a file by its first bytes: unknown where they are too few to tell. The parser lent here is this function's own.

@@ -1,16 +1,15 @@
 // The steps that look at no box, after the Rust's container/parse.rs: at the signature, and on an empty input.
 use jxl_events::ParseEvent;
 use jxl_headers::BytesLeft;
-use jxl_headers::consts;
-use jxl_headers::consts::Signature;
 use jxl_payloads::StepResult;
 use jxl_record::BitstreamKind;
 use jxl_record::ContainerParser;
 use jxl_record::DetectState;
 use jxl_record::JxlpIndexState;
+use jxl_signatures::Signature;
 ghost use mathlib.Core.Path.{_≡_};
 ghost use mathlib.Core.List.{[]};
-ghost use Rattle.jxl_headers.specs.Signature.{signatureOf};
+ghost use Rattle.jxl_signatures.specs.Signature.{signatureOf};
 ghost use Rattle.jxl_grammar.specs.Naming.{numbered};
 ghost use Rattle.jxl_grammar.specs.Step as Spec;
 ghost use Rattle.jxl_payloads.specs.Told.{told};
@@ -19,7 +18,7 @@ ghost use Rattle.jxl_payloads.specs.Told.{told};
 pub fn signature_step(jxlp: JxlpIndexState, s: &[u8]) -> StepResult
     ensures { λ r. ⌜ told r ≡ numbered (Spec.signatureStep jxlp (signatureOf (now (s .entry)))) ⌝ }
 {
-    match consts::which_signature(s) {
+    match jxl_signatures::which_signature(s) {
         Signature::Bare => kind_step(BitstreamKind::BareCodestream, jxlp),
         Signature::Container => StepResult::Shown {
             event: ParseEvent::BitstreamKind(BitstreamKind::Container),

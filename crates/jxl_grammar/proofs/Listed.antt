@@ -13,7 +13,7 @@ use Rattle.jxl_headers.specs.Bytes.{if, be32}
 use Rattle.jxl_reach.specs.Reach.{under, less, toEnd}
 use Rattle.jxl_record.specs.Record.{at, overIndex, impossibleIn, impossible, refusedIn, isRefused}
 use Rattle.jxl_headers.specs.Header.{Header, short, bad, box, headerOf}
-use Rattle.jxl_headers.specs.Signature.{signatureOf}
+use Rattle.jxl_signatures.specs.Signature.{signatureOf}
 use Rattle.jxl_headers.specs.Types.{jxlc, jxlp, brob, reserved}
 use Rattle.jxl_grammar.specs.Step as T
 use Rattle.jxl_grammar.specs.Step.{Told, shows, wants, refuses, ahead, codePart, codeStep, auxPart, indexStep, innerStep, jxlcStep, jxlpNext, boxStep, headerStep, signatureStep, awaited, stateStep, stepOf}
@@ -22,9 +22,9 @@ use Rattle.jxl_grammar.proofs.Step.{code-wants, code-pending, code-show
 use Rattle.jxl_grammar.proofs.Laws.{refused-repeats}
 use Rattle.jxl_events.proofs.Shifted.{shifted-shifted}
 use Rattle.jxl_headers.proofs.Header.{header-fits, header-short}
-use Rattle.jxl_headers.proofs.Signature.{is-short-bare}
-use Rattle.jxl_headers.specs.declared.consts.Signature.{Signature}
-use Rattle.jxl_headers.specs.declared.consts.Signature.the-variants as G
+use Rattle.jxl_signatures.proofs.Which.{is-short-bare}
+use Rattle.jxl_signatures.specs.declared.Signature.{Signature}
+use Rattle.jxl_signatures.specs.declared.Signature.the-variants as G
 use Rattle.jxl_record.specs.declared.BitstreamKind.{BitstreamKind}
 use Rattle.jxl_record.specs.declared.BitstreamKind.the-variants as K
 use Rattle.jxl_reach.specs.declared.BytesLeft.{BytesLeft}

@@ -9,11 +9,11 @@ use lib.Dec.{ltb, eqb}
 use lib.ListN.{length, length-append, List·getD-append}
 use borrow.Author.Tests.{le-ltb, ltb-true, ltb-false, eqb-true, eqb-false, eq-eqb, ne-eqb}
 use Rattle.jxl_headers.specs.Bytes.{and, be32, be64, starts}
-use Rattle.jxl_headers.specs.Signature.{signatureOf, codestreamSig, containerSig}
+use Rattle.jxl_signatures.specs.Signature.{signatureOf, codestreamSig, containerSig}
 use Rattle.jxl_headers.specs.Header.{short, headerOf, extended}
 use Rattle.jxl_headers.proofs.Header.{header-short, header-extended, extended-short}
-use Rattle.jxl_headers.proofs.Signature.{is-bare, is-container, is-short-bare, is-short-container, is-neither}
-use Rattle.jxl_headers.specs.declared.consts.Signature.the-variants.{TooShort}
+use Rattle.jxl_signatures.proofs.Which.{is-bare, is-container, is-short-bare, is-short-container, is-neither}
+use Rattle.jxl_signatures.specs.declared.Signature.the-variants.{TooShort}
 use Rattle.jxl_base.proofs.Never.{never}
 
 module _ (a b : List ℕ) where

@@ -14,15 +14,15 @@ use Rattle.jxl_refusals.specs.declared.BoxRefusal.{BoxRefusal}
 use Rattle.jxl_reach.specs.Reach.{under, less, toEnd}
 use Rattle.jxl_record.specs.Record.{at, impossible, isRefused}
 use Rattle.jxl_headers.specs.Header.{Header, short, bad, box, headerOf}
-use Rattle.jxl_headers.specs.Signature.{signatureOf}
+use Rattle.jxl_signatures.specs.Signature.{signatureOf}
 use Rattle.jxl_headers.specs.Types.{jxlc, jxlp, brob, reserved}
 use Rattle.jxl_grammar.specs.Step.{Told, shows, wants, refuses, ahead, codePart, codeStep, auxPart, row, indexStep, innerStep, jxlcStep, jxlpNext, boxStep, headerStep, signatureStep, awaited, stateStep, stepOf}
 use Rattle.jxl_events.specs.Event.{shifted}
 use Rattle.jxl_grammar.proofs.Step.{code-wants, code-pending, code-shows, index-wants, index-right, index-wrong, inner-wants, inner-reserved, inner-shows, box-jxlc, box-jxlp, box-brob, box-aux, step-empty, step-state, step-impossible}
 use Rattle.jxl_grammar.proofs.Laws.{stays}
 use Rattle.jxl_headers.proofs.Header.{header-fits}
-use Rattle.jxl_headers.specs.declared.consts.Signature.{Signature}
-use Rattle.jxl_headers.specs.declared.consts.Signature.the-variants as G
+use Rattle.jxl_signatures.specs.declared.Signature.{Signature}
+use Rattle.jxl_signatures.specs.declared.Signature.the-variants as G
 use Rattle.jxl_record.specs.declared.BitstreamKind.{BitstreamKind}
 use Rattle.jxl_record.specs.declared.BitstreamKind.the-variants as K
 use Rattle.jxl_reach.specs.declared.BytesLeft.{BytesLeft}

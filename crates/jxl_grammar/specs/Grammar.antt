@@ -1,6 +1,6 @@
 -- What a whole file lists: document 01, "Boxes", as a grammar of bytes. It knows nothing of steps, packets or a parser's state;
--- with a step it shares the signature, the header and the box types of jxl_headers (`signatureOf`, `headerOf`, `Types`), the reach of a
--- payload (jxl_reach) and the names of the rules that can break (jxl_refusals).
+-- with a step it shares the signature (`signatureOf` of jxl_signatures), the header and the box types (`headerOf`, `Types` of jxl_headers), the
+-- reach of a payload (jxl_reach) and the names of the rules that can break (jxl_refusals).
 -- Each definition is one thing in a file that stands at `at`, with the bytes `s` from there to the end; `more` lists what follows it.
 -- A choice is an `elim`, which computes one branch alone; an `if` would compute both, and with them the boxes to the end twice.
 use mathlib.Core.Bool.{Bool, true, false}
@@ -11,12 +11,12 @@ use lib.ListN.{length, drop}
 use Rattle.jxl_cuts.specs.Feeding.{Stop as Stops}
 pub use Rattle.jxl_cuts.specs.Feeding.{want, refused}
 use Rattle.jxl_headers.specs.Bytes.{be32}
-use Rattle.jxl_headers.specs.Signature.{signatureOf}
+use Rattle.jxl_signatures.specs.Signature.{signatureOf}
 use Rattle.jxl_reach.specs.Reach.{under, less, toEnd}
 use Rattle.jxl_headers.specs.Types.{jxlc, jxlp, brob, reserved}
 use Rattle.jxl_headers.specs.Header.{Header, short, bad, box, headerOf}
-use Rattle.jxl_headers.specs.declared.consts.Signature.{Signature}
-use Rattle.jxl_headers.specs.declared.consts.Signature.the-variants as G
+use Rattle.jxl_signatures.specs.declared.Signature.{Signature}
+use Rattle.jxl_signatures.specs.declared.Signature.the-variants as G
 use Rattle.jxl_record.specs.declared.BitstreamKind.{BitstreamKind}
 use Rattle.jxl_record.specs.declared.BitstreamKind.the-variants as K
 use Rattle.jxl_reach.specs.declared.BytesLeft.{BytesLeft}

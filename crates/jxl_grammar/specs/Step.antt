@@ -8,13 +8,13 @@ use lib.ListN.{length, take, drop}
 use Rattle.jxl_cuts.specs.Machine.{Told as Answer, aheadBy}
 pub use Rattle.jxl_cuts.specs.Machine.{shows, wants, refuses}
 use Rattle.jxl_headers.specs.Bytes.{if, and, or, be32, empty}
-use Rattle.jxl_headers.specs.Signature.{signatureOf}
+use Rattle.jxl_signatures.specs.Signature.{signatureOf}
 use Rattle.jxl_reach.specs.Reach.{under, less, toEnd}
 use Rattle.jxl_record.specs.Record.{at, kindOf, impossible, isRefused}
 use Rattle.jxl_headers.specs.Header.{Header, short, bad, box, headerOf}
 use Rattle.jxl_headers.specs.Types.{jxlc, jxlp, brob, reserved}
-use Rattle.jxl_headers.specs.declared.consts.Signature.{Signature}
-use Rattle.jxl_headers.specs.declared.consts.Signature.the-variants as G
+use Rattle.jxl_signatures.specs.declared.Signature.{Signature}
+use Rattle.jxl_signatures.specs.declared.Signature.the-variants as G
 use Rattle.jxl_record.specs.declared.BitstreamKind.{BitstreamKind}
 use Rattle.jxl_record.specs.declared.BitstreamKind.the-variants as K
 use Rattle.jxl_reach.specs.declared.BytesLeft.{BytesLeft}

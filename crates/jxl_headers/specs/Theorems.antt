@@ -4,11 +4,7 @@ use mathlib.Core.List.{List}
 use Prim.Native.Nat.{ℕ}
 use Rattle.jxl_base.specs.OneAnswer.{OneAnswer}
 use Rattle.jxl_headers.specs.Bytes.{be32}
-use Rattle.jxl_headers.specs.Signature.{signatureOf}
 use Rattle.jxl_headers.specs.Header.{headerOf, numbered, toldHeader}
-
-abbrev pub OneSignature : Type 0
-OneSignature = (s : List ℕ) → OneAnswer (λ r. r ≡ signatureOf s)
 
 abbrev pub OneHeader : Type 0
 OneHeader = (s : List ℕ) → OneAnswer (λ r. toldHeader r ≡ numbered (headerOf s))

@@ -7,7 +7,7 @@ use Prim.Native.Nat.{ℕ, _-_, _^_}
 use lib.Ieee.{binary32, ofBits}
 use Rattle.jxl_cuts.specs.Feeding.{Stop}
 use Rattle.jxl_refusals.specs.Refusals.{Why, refusal, why}
-use Rattle.jxl_headers.specs.Signature.{signatureOf, containerSig}
+use Rattle.jxl_signatures.specs.Signature.{signatureOf, containerSig}
 use Rattle.jxl_headers.specs.Header.{headerOf, extended}
 use Rattle.jxl_record.specs.declared.BitstreamKind.the-variants as K
 use Rattle.jxl_events.specs.declared.ParseEvent.{ParseEvent}

@@ -4,10 +4,10 @@ use Prim.Native.Nat.{ℕ, _+_, _-_, _≤_}
 use native.Mathlib.Omega.{arith}
 use lib.ListN.{length, drop}
 use denote.Ref.{now}
-use Rattle.jxl_headers.specs.Bytes.{starts}
-use Rattle.jxl_headers.proofs.Bytes.{starts-short, starts-differ, starts-agree, starts-over}
-use Rattle.jxl_headers.proofs.consts.starts_with.Statement.{statement}
-use Rattle.jxl_headers.proofs.consts.starts_with.Tie as tie
+use Rattle.jxl_signatures.specs.Bytes.{starts}
+use Rattle.jxl_signatures.proofs.Bytes.{starts-short, starts-differ, starts-agree, starts-over}
+use Rattle.jxl_signatures.proofs.starts_with.Statement.{statement}
+use Rattle.jxl_signatures.proofs.starts_with.Tie as tie
 
 abbrev Inv-loop : tie.InvT-loop
 Inv-loop s prefix i₀ i =

@@ -10,7 +10,7 @@ use lib.ListN.{length, getD, drop, drop-of-length-le}
 use lib.Seq.{drop-cons}
 use borrow.Author.Tests.{eq-eqb, ne-eqb}
 use native.Mathlib.Numerals.{add-one}
-use Rattle.jxl_headers.specs.Bytes.{and, starts}
+use Rattle.jxl_signatures.specs.Bytes.{and, starts}
 
 and-false : (t : Bool) {u : Bool} → u ≡ false → and t u ≡ false
 and-false true e = e

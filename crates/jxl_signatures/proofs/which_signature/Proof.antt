@@ -1,10 +1,10 @@
-use Rattle.jxl_headers.proofs.Signature.{is-bare, is-container, is-short-bare, is-short-container, is-neither}
+use Rattle.jxl_signatures.proofs.Which.{is-bare, is-container, is-short-bare, is-short-container, is-neither}
 use mathlib.Core.Path.{_≡_, sym, _∙_}
 use mathlib.Core.Bool.{Bool}
 use denote.Ref.{now}
 use borrow.Author.Needs.{needs}
-use Rattle.jxl_headers.proofs.consts.which_signature.Statement.{statement}
-use Rattle.jxl_headers.proofs.consts.which_signature.Tie as tie
+use Rattle.jxl_signatures.proofs.which_signature.Statement.{statement}
+use Rattle.jxl_signatures.proofs.which_signature.Tie as tie
 
 -- what a call answered, and what the test of its answer showed
 of-call : {r x t : Bool} → r ≡ x → r ≡ t → x ≡ t

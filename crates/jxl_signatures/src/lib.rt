@@ -1,7 +1,7 @@
-// Constants used in JPEG XL bitstreams, and the function that tells which signature an input starts with.
+// The signatures of JPEG XL files, and the function that tells which of them an input starts with.
 ghost use mathlib.Core.Path.{_≡_};
-ghost use Rattle.jxl_headers.specs.Bytes.{starts};
-ghost use Rattle.jxl_headers.specs.Signature.{signatureOf};
+ghost use Rattle.jxl_signatures.specs.Bytes.{starts};
+ghost use Rattle.jxl_signatures.specs.Signature.{signatureOf};
 
 // JPEG XL bare codestream signature, `ff 0a`.
 pub const CODESTREAM_SIG: [u8; 2] = [0xff, 0x0a];

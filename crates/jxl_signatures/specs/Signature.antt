@@ -1,9 +1,9 @@
 -- The two signatures of ISO/IEC 18181, and which of them an input starts with.
 use mathlib.Core.List.{List, [], _∷_}
 use Prim.Native.Nat.{ℕ}
-use Rattle.jxl_headers.specs.Bytes.{if, or, starts}
-use Rattle.jxl_headers.specs.declared.consts.Signature.{Signature}
-use Rattle.jxl_headers.specs.declared.consts.Signature.the-variants.{Bare, Container, TooShort, Neither}
+use Rattle.jxl_signatures.specs.Bytes.{if, or, starts}
+use Rattle.jxl_signatures.specs.declared.Signature.{Signature}
+use Rattle.jxl_signatures.specs.declared.Signature.the-variants.{Bare, Container, TooShort, Neither}
 
 abbrev pub codestreamSig : List ℕ
 codestreamSig = 0xff ∷ 0x0a ∷ []

@@ -5,11 +5,11 @@ use mathlib.Core.List.{List}
 use Prim.Native.Nat.{ℕ, _≤_}
 use native.Mathlib.Omega.{arith}
 use lib.ListN.{length}
-use Rattle.jxl_headers.specs.Bytes.{starts}
-use Rattle.jxl_headers.specs.Signature.{signatureOf, codestreamSig, containerSig}
-use Rattle.jxl_headers.proofs.Bytes.{starts-length}
-use Rattle.jxl_headers.specs.declared.consts.Signature.{Signature}
-use Rattle.jxl_headers.specs.declared.consts.Signature.the-variants.{Bare, Container, TooShort, Neither}
+use Rattle.jxl_signatures.specs.Bytes.{starts}
+use Rattle.jxl_signatures.specs.Signature.{signatureOf, codestreamSig, containerSig}
+use Rattle.jxl_signatures.proofs.Bytes.{starts-length}
+use Rattle.jxl_signatures.specs.declared.Signature.{Signature}
+use Rattle.jxl_signatures.specs.declared.Signature.the-variants.{Bare, Container, TooShort, Neither}
 
 module _ (s : List ℕ) where
   pub is-bare : starts codestreamSig s ≡ true → signatureOf s ≡ Bare
