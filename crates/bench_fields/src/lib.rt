@@ -1,12 +1,12 @@
 // Fields read one behind the other, for the bench to call and time. Each driver reads `count` fields of its kind, and answers the
 // sum of their values; it stops where one is refused.
-use jxl_bits::FieldRefusal;
-use jxl_bits::Moved;
-use jxl_bits::ReadBool;
-use jxl_bits::ReadU32;
-use jxl_fields::ReadF16;
-use jxl_fields::ReadU64;
-use jxl_fields::U32Specifier;
+use jxl_bitstream::FieldRefusal;
+use jxl_bitstream::Moved;
+use jxl_bitstream::ReadBool;
+use jxl_bitstream::ReadF16;
+use jxl_bitstream::ReadU32;
+use jxl_bitstream::ReadU64;
+use jxl_bitstream::U32Specifier;
 use std::num::wrapping_add_u64;
 
 // The numbers of the transfer functions.
@@ -22,7 +22,7 @@ pub extern "C" fn bench_read_bits(s: &[u8], count: u64) -> u64 {
     let mut sum: u64 = 0;
     let mut i: u64 = 0;
     while i < count {
-        let ReadU32::Value(x, next) = jxl_bits::read_bits(s, at, width) else {
+        let ReadU32::Value(x, next) = jxl_bitstream::read_bits(s, at, width) else {
             return sum;
         };
         sum = wrapping_add_u64(sum, x as u64);
@@ -41,10 +41,10 @@ pub extern "C" fn bench_peek(s: &[u8], count: u64) -> u64 {
     let mut sum: u64 = 0;
     let mut i: u64 = 0;
     while i < count {
-        let ReadU32::Value(x, here) = jxl_bits::peek_bits(s, at, width) else {
+        let ReadU32::Value(x, here) = jxl_bitstream::peek_bits(s, at, width) else {
             return sum;
         };
-        let Moved::To(next) = jxl_bits::consume_bits(s, here, width) else {
+        let Moved::To(next) = jxl_bitstream::consume_bits(s, here, width) else {
             return sum;
         };
         sum = wrapping_add_u64(sum, x as u64);
@@ -63,7 +63,7 @@ pub extern "C" fn bench_skip(s: &[u8], count: u64) -> u64 {
     let mut sum: u64 = 0;
     let mut i: u64 = 0;
     while i < count {
-        let Moved::To(next) = jxl_bits::skip_bits(s, at, width) else {
+        let Moved::To(next) = jxl_bitstream::skip_bits(s, at, width) else {
             return sum;
         };
         sum = wrapping_add_u64(sum, next as u64);
@@ -81,7 +81,7 @@ pub extern "C" fn bench_bool(s: &[u8], count: u64) -> u64 {
     let mut sum: u64 = 0;
     let mut i: u64 = 0;
     while i < count {
-        let ReadBool::Value(x, next) = jxl_bits::read_bool(s, at) else {
+        let ReadBool::Value(x, next) = jxl_bitstream::read_bool(s, at) else {
             return sum;
         };
         sum = wrapping_add_u64(sum, x as u64);
@@ -104,7 +104,7 @@ pub extern "C" fn bench_u32(s: &[u8], count: u64) -> u64 {
     let mut sum: u64 = 0;
     let mut i: u64 = 0;
     while i < count {
-        let ReadU32::Value(x, next) = jxl_fields::read_u32(s, at, choices) else {
+        let ReadU32::Value(x, next) = jxl_bitstream::read_u32(s, at, choices) else {
             return sum;
         };
         sum = wrapping_add_u64(sum, x as u64);
@@ -121,7 +121,7 @@ pub extern "C" fn bench_u64(s: &[u8], count: u64) -> u64 {
     let mut sum: u64 = 0;
     let mut i: u64 = 0;
     while i < count {
-        let ReadU64::Value(x, next) = jxl_fields::read_u64(s, at) else {
+        let ReadU64::Value(x, next) = jxl_bitstream::read_u64(s, at) else {
             return sum;
         };
         sum = wrapping_add_u64(sum, x);
@@ -139,7 +139,7 @@ pub extern "C" fn bench_enum(s: &[u8], count: u64) -> u64 {
     let mut sum: u64 = 0;
     let mut i: u64 = 0;
     while i < count {
-        let ReadU32::Value(x, next) = jxl_fields::read_enum(s, at, &list) else {
+        let ReadU32::Value(x, next) = jxl_bitstream::read_enum(s, at, &list) else {
             return sum;
         };
         sum = wrapping_add_u64(sum, x as u64);
@@ -156,7 +156,7 @@ pub extern "C" fn bench_f16(s: &[u8], count: u64) -> f32 {
     let mut sum: f32 = 0.0;
     let mut i: u64 = 0;
     while i < count {
-        let ReadF16::Value(x, next) = jxl_fields::read_f16_as_f32(s, at) else {
+        let ReadF16::Value(x, next) = jxl_bitstream::read_f16_as_f32(s, at) else {
             return sum;
         };
         sum = sum + x;
@@ -174,16 +174,16 @@ fn size_header(s: &[u8], at: usize) -> ReadU64 {
         U32Specifier::BitsOffset(1, 18),
         U32Specifier::BitsOffset(1, 30),
     ];
-    let ReadBool::Value(small, a) = jxl_bits::read_bool(s, at) else {
+    let ReadBool::Value(small, a) = jxl_bitstream::read_bool(s, at) else {
         return ReadU64::Refused(FieldRefusal::UnexpectedEof, at);
     };
-    let ReadU32::Value(height, b) = jxl_fields::read_u32(s, a, choices) else {
+    let ReadU32::Value(height, b) = jxl_bitstream::read_u32(s, a, choices) else {
         return ReadU64::Refused(FieldRefusal::UnexpectedEof, a);
     };
-    let ReadU32::Value(ratio, c) = jxl_bits::read_bits(s, b, 3) else {
+    let ReadU32::Value(ratio, c) = jxl_bitstream::read_bits(s, b, 3) else {
         return ReadU64::Refused(FieldRefusal::UnexpectedEof, b);
     };
-    let ReadU32::Value(width, d) = jxl_fields::read_u32(s, c, choices) else {
+    let ReadU32::Value(width, d) = jxl_bitstream::read_u32(s, c, choices) else {
         return ReadU64::Refused(FieldRefusal::UnexpectedEof, c);
     };
     let sides = wrapping_add_u64(height as u64, width as u64);
@@ -203,19 +203,19 @@ fn metadata(s: &[u8], at: usize) -> ReadU64 {
         U32Specifier::Constant(12),
         U32Specifier::BitsOffset(1, 6),
     ];
-    let ReadU32::Value(orientation, a) = jxl_bits::read_bits(s, at, 3) else {
+    let ReadU32::Value(orientation, a) = jxl_bitstream::read_bits(s, at, 3) else {
         return ReadU64::Refused(FieldRefusal::UnexpectedEof, at);
     };
-    let ReadU32::Value(depth, b) = jxl_fields::read_u32(s, a, depths) else {
+    let ReadU32::Value(depth, b) = jxl_bitstream::read_u32(s, a, depths) else {
         return ReadU64::Refused(FieldRefusal::UnexpectedEof, a);
     };
-    let ReadU32::Value(colour, c) = jxl_fields::read_enum(s, b, &list) else {
+    let ReadU32::Value(colour, c) = jxl_bitstream::read_enum(s, b, &list) else {
         return ReadU64::Refused(FieldRefusal::UnexpectedEof, b);
     };
-    let ReadF16::Value(nits, d) = jxl_fields::read_f16_as_f32(s, c) else {
+    let ReadF16::Value(nits, d) = jxl_bitstream::read_f16_as_f32(s, c) else {
         return ReadU64::Refused(FieldRefusal::UnexpectedEof, c);
     };
-    let ReadU64::Value(extensions, e) = jxl_fields::read_u64(s, d) else {
+    let ReadU64::Value(extensions, e) = jxl_bitstream::read_u64(s, d) else {
         return ReadU64::Refused(FieldRefusal::UnexpectedEof, d);
     };
     let small = wrapping_add_u64(
