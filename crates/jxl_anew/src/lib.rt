@@ -1,6 +1,6 @@
 // A record rebuilt field by field, which a step does first: it changes nothing, and is quicker than a plain copy.
 use jxl_headers::BytesLeft;
-use jxl_record::ContainerParser;
+use jxl_record::BoxParser;
 use jxl_record::DetectState;
 use jxl_refusals::BoxRefusal;
 ghost use mathlib.Core.Path.{_≡_};
@@ -31,34 +31,31 @@ fn same_refusal(refusal: BoxRefusal) -> BoxRefusal
         BoxRefusal::BrobTooSmall => BoxRefusal::BrobTooSmall,
         BoxRefusal::ImpossibleRecord => BoxRefusal::ImpossibleRecord,
         BoxRefusal::ValidationFailed => BoxRefusal::ValidationFailed,
+        BoxRefusal::StreamLimit => BoxRefusal::StreamLimit,
     }
 }
 
 // The same record, made anew field by field, for the same reason.
-pub fn same(p: ContainerParser) -> ContainerParser
+pub fn same(p: BoxParser) -> BoxParser
     ensures { λ r. ⌜ r ≡ p ⌝ }
 {
     let state = p.state;
     let jxlp = p.jxlp;
     match state {
-        DetectState::WaitingSignature => {
-            ContainerParser::at(DetectState::WaitingSignature, jxlp)
-        }
-        DetectState::WaitingBoxHeader => {
-            ContainerParser::at(DetectState::WaitingBoxHeader, jxlp)
-        }
+        DetectState::WaitingSignature => { BoxParser::at(DetectState::WaitingSignature, jxlp) }
+        DetectState::WaitingBoxHeader => { BoxParser::at(DetectState::WaitingBoxHeader, jxlp) }
         DetectState::WaitingJxlpIndex(left) => {
-            ContainerParser::at(DetectState::WaitingJxlpIndex(anew(left)), jxlp)
+            BoxParser::at(DetectState::WaitingJxlpIndex(anew(left)), jxlp)
         }
         DetectState::WaitingInnerType(left) => {
-            ContainerParser::at(DetectState::WaitingInnerType(anew(left)), jxlp)
+            BoxParser::at(DetectState::WaitingInnerType(anew(left)), jxlp)
         }
         DetectState::InAuxBox {
             ty,
             bytes_left: left,
         } => {
             let l = anew(left);
-            ContainerParser::at(DetectState::InAuxBox { ty, bytes_left: l }, jxlp)
+            BoxParser::at(DetectState::InAuxBox { ty, bytes_left: l }, jxlp)
         }
         DetectState::InCodestream {
             kind,
@@ -71,11 +68,11 @@ pub fn same(p: ContainerParser) -> ContainerParser
                 bytes_left: l,
                 pending_no_more_aux_box,
             };
-            ContainerParser::at(anew, jxlp)
+            BoxParser::at(anew, jxlp)
         }
         DetectState::Refused { kind, refusal } => {
             let r = same_refusal(refusal);
-            ContainerParser::at(DetectState::Refused { kind, refusal: r }, jxlp)
+            BoxParser::at(DetectState::Refused { kind, refusal: r }, jxlp)
         }
     }
 }

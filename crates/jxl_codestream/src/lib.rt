@@ -1,9 +1,9 @@
 // One step inside a codestream, after the Rust's container/parse.rs. The input is lent whole, and the payload starts `at` bytes on.
 use jxl_events::ParseEvent;
 use jxl_headers::BytesLeft;
-use jxl_payloads::StepResult;
+use jxl_payloads::BoxResult;
 use jxl_record::BitstreamKind;
-use jxl_record::ContainerParser;
+use jxl_record::BoxParser;
 use jxl_record::DetectState;
 use jxl_record::JxlpIndexState;
 ghost use mathlib.Core.Path.{_≡_};
@@ -19,7 +19,7 @@ fn in_codestream(
     left: BytesLeft,
     pending: bool,
     jxlp: JxlpIndexState,
-) -> ContainerParser
+) -> BoxParser
     ensures { λ r. ⌜ r ≡ Spec.inCode kind left pending jxlp ⌝ }
 {
     let state = DetectState::InCodestream {
@@ -27,7 +27,7 @@ fn in_codestream(
         bytes_left: left,
         pending_no_more_aux_box: pending,
     };
-    ContainerParser::at(state, jxlp)
+    BoxParser::at(state, jxlp)
 }
 
 // The `n` bytes of input at `at`, at least one, inside a codestream.
@@ -37,12 +37,12 @@ fn code_part(
     left: BytesLeft,
     at: usize,
     n: usize,
-) -> StepResult
+) -> BoxResult
     requires { ⌜ at + n < 2 ^ 64 ⌝ }
     ensures { λ r. ⌜ told r ≡ numbered (Spec.ahead at (Spec.codePart jxlp kind left n)) ⌝ }
 {
     match left {
-        BytesLeft::ToEnd => StepResult::Shown {
+        BytesLeft::ToEnd => BoxResult::Shown {
             event: ParseEvent::Codestream { at, len: n },
             next: in_codestream(kind, BytesLeft::ToEnd, false, jxlp),
             consumed: at + n,
@@ -50,13 +50,13 @@ fn code_part(
         BytesLeft::Bytes(m) => {
             if m <= n as u64 {
                 let len = m as usize;
-                StepResult::Shown {
+                BoxResult::Shown {
                     event: ParseEvent::Codestream { at, len },
-                    next: ContainerParser::at(DetectState::WaitingBoxHeader, jxlp),
+                    next: BoxParser::at(DetectState::WaitingBoxHeader, jxlp),
                     consumed: at + len,
                 }
             } else {
-                StepResult::Shown {
+                BoxResult::Shown {
                     event: ParseEvent::Codestream { at, len: n },
                     next: in_codestream(kind, BytesLeft::Bytes(m - n as u64), false, jxlp),
                     consumed: at + n,
@@ -74,17 +74,17 @@ pub fn code_step(
     pending: bool,
     s: &[u8],
     at: usize,
-) -> StepResult
+) -> BoxResult
     ensures { λ r. ⌜ told r ≡ numbered (Spec.ahead at (Spec.codeStep jxlp kind left pending (drop at (now (s .entry))))) ⌝ }
 {
     if s.len() <= at {
-        return StepResult::Want {
+        return BoxResult::Want {
             next: in_codestream(kind, left, pending, jxlp),
             consumed: at,
         };
     }
     if pending {
-        return StepResult::Shown {
+        return BoxResult::Shown {
             event: ParseEvent::NoMoreAuxBox,
             next: in_codestream(kind, left, false, jxlp),
             consumed: at,

@@ -1,7 +1,7 @@
 -- Two answers that meet a promise are equal.
-use Rattle.jxl_grammar.specs.Step.{stepOf}
-use Rattle.jxl_grammar.specs.Naming.{numbered}
-use Rattle.jxl_payloads.proofs.Unique.{one-result}
+use Rattle.jxl_totals.specs.Step.{stepOf}
+use Rattle.jxl_totals.specs.Naming.{numbered}
+use Rattle.jxl_counts.proofs.Unique.{one-result}
 use Rattle.jxl_container.specs.Theorems.{OneStep}
 
 pub one-step : OneStep

@@ -1,218 +1,83 @@
-// One step of the container parser, after the Rust's container/parse.rs: a record by value and a part of the input go in; an event,
-// WANT or a refusal comes back, each with the next record and the bytes consumed. One small function for each state.
-use jxl_codestream::code_step;
-use jxl_first_steps::empty_step;
-use jxl_first_steps::signature_step;
-use jxl_headers::box_header;
-use jxl_headers::box_header::HeaderParseResult;
-use jxl_payload_starts::index_step;
-use jxl_payload_starts::inner_step;
-use jxl_payloads::refuse;
+// One step of the container parser: the rules on boxes, on the input up to the limit of a file, with the bytes counted. A record by
+// value and a part of the input go in; an event, WANT or a refusal comes back, each with the next record and the bytes consumed.
+use jxl_counts::after;
+use jxl_counts::limited;
+use jxl_counts::refused;
+use jxl_marks::at_header;
+use jxl_marks::looked_at;
+use jxl_marks::newest;
+use jxl_marks::visible;
+use jxl_payloads::BoxResult;
 ghost use mathlib.Core.Path.{_≡_};
-ghost use mathlib.Core.Bool.{false};
-ghost use lib.ListN.{drop};
-ghost use Rattle.jxl_headers.specs.Header.{headerOf};
-ghost use Rattle.jxl_record.specs.Record.{impossible, overIndex};
-ghost use Rattle.jxl_grammar.specs.Naming.{numbered};
-ghost use Rattle.jxl_grammar.specs.Step as Spec;
-ghost use Rattle.jxl_payloads.specs.Told.{told};
+ghost use Rattle.jxl_totals.specs.Naming.{numbered};
+ghost use Rattle.jxl_totals.specs.Step as Spec;
+ghost use Rattle.jxl_counts.specs.Told.{told};
 
 // What a user of the container needs, from one place.
+pub use jxl_counts::StepResult;
+pub use jxl_events::FileEvent;
 pub use jxl_events::ParseEvent;
-pub use jxl_events::Placed;
 pub use jxl_events::payload;
-pub use jxl_events::with_place;
 pub use jxl_headers::BytesLeft;
 pub use jxl_joiner::Added;
 pub use jxl_joiner::Joiner;
 pub use jxl_joiner::MaybeEvent;
-pub use jxl_payloads::StepResult;
 pub use jxl_queue::most_events;
 pub use jxl_record::BitstreamKind;
-pub use jxl_record::ContainerParser;
+pub use jxl_record::BoxParser;
 pub use jxl_record::DetectState;
 pub use jxl_record::JxlpIndexState;
 pub use jxl_refusals::BoxRefusal;
-
-// A refusal of the box whose header ends at `at`.
-fn refuse_box(refusal: BoxRefusal, jxlp: JxlpIndexState, at: usize) -> StepResult
-    ensures { λ r. ⌜ told r ≡ numbered (Spec.ahead at (Spec.refuseBox refusal jxlp)) ⌝ }
-{
-    refuse(
-        refusal,
-        ContainerParser::at(DetectState::WaitingBoxHeader, jxlp),
-        at,
-    )
-}
-
-// A `jxlc` payload at `at`.
-fn jxlc_step(jxlp: JxlpIndexState, left: BytesLeft, s: &[u8], at: usize) -> StepResult
-    ensures { λ r. ⌜ told r ≡ numbered (Spec.ahead at (Spec.jxlcStep jxlp left (drop at (now (s .entry))))) ⌝ }
-{
-    match jxlp {
-        JxlpIndexState::Initial => code_step(
-            JxlpIndexState::SingleJxlc,
-            BitstreamKind::Container,
-            left,
-            left.to_end(),
-            s,
-            at,
-        ),
-        JxlpIndexState::SingleJxlc => {
-            refuse_box(BoxRefusal::SecondJxlc, JxlpIndexState::SingleJxlc, at)
-        },
-        JxlpIndexState::Jxlp(i) => {
-            refuse_box(BoxRefusal::JxlcAfterJxlp, JxlpIndexState::Jxlp(i), at)
-        },
-        JxlpIndexState::JxlpFinished => {
-            refuse_box(BoxRefusal::JxlcAfterJxlp, JxlpIndexState::JxlpFinished, at)
-        },
-    }
-}
-
-// A `jxlp` payload of 4 bytes or more at `at`: its place in the row.
-fn jxlp_next(jxlp: JxlpIndexState, left: BytesLeft, s: &[u8], at: usize) -> StepResult
-    requires { ⌜ overIndex jxlp ≡ false ⌝ }
-    ensures { λ r. ⌜ told r ≡ numbered (Spec.ahead at (Spec.jxlpNext jxlp left (drop at (now (s .entry))))) ⌝ }
-{
-    match jxlp {
-        JxlpIndexState::Initial => index_step(0, left, s, at),
-        JxlpIndexState::SingleJxlc => {
-            refuse_box(BoxRefusal::JxlpAfterJxlc, JxlpIndexState::SingleJxlc, at)
-        },
-        JxlpIndexState::Jxlp(i) => index_step(i + 1, left, s, at),
-        JxlpIndexState::JxlpFinished => {
-            refuse_box(BoxRefusal::JxlpAfterLast, JxlpIndexState::JxlpFinished, at)
-        },
-    }
-}
-
-// A `jxlp` box behind its header, its size looked at before its place in the row.
-fn jxlp_step(jxlp: JxlpIndexState, left: BytesLeft, s: &[u8], at: usize) -> StepResult
-    requires { ⌜ overIndex jxlp ≡ false ⌝ }
-    ensures { λ r. ⌜ told r ≡ numbered (Spec.ahead at (Spec.jxlpStep jxlp left (drop at (now (s .entry))))) ⌝ }
-{
-    if left.under(4) {
-        return refuse_box(BoxRefusal::JxlpTooSmall, jxlp, at);
-    }
-    jxlp_next(jxlp, left, s, at)
-}
-
-// A `brob` box behind its header.
-fn brob_step(jxlp: JxlpIndexState, left: BytesLeft, s: &[u8], at: usize) -> StepResult
-    ensures { λ r. ⌜ told r ≡ numbered (Spec.ahead at (Spec.brobStep jxlp left (drop at (now (s .entry))))) ⌝ }
-{
-    if left.under(4) {
-        return refuse_box(BoxRefusal::BrobTooSmall, jxlp, at);
-    }
-    inner_step(jxlp, left, s, at)
-}
-
-// A box of type `ty` behind its header.
-fn box_step(jxlp: JxlpIndexState, ty: u32, left: BytesLeft, s: &[u8], at: usize) -> StepResult
-    requires { ⌜ overIndex jxlp ≡ false ⌝ }
-    ensures { λ r. ⌜ told r ≡ numbered (Spec.ahead at (Spec.boxStep jxlp ty left (drop at (now (s .entry))))) ⌝ }
-{
-    if ty == box_header::CODESTREAM {
-        return jxlc_step(jxlp, left, s, at);
-    }
-    if ty == box_header::PARTIAL_CODESTREAM {
-        return jxlp_step(jxlp, left, s, at);
-    }
-    if ty == box_header::BROTLI_COMPRESSED {
-        return brob_step(jxlp, left, s, at);
-    }
-    StepResult::Shown {
-        event: ParseEvent::AuxBoxStart {
-            ty,
-            brotli_compressed: false,
-            last_box: left.to_end(),
-        },
-        next: ContainerParser::at(
-            DetectState::InAuxBox {
-                ty,
-                bytes_left: left,
-            },
-            jxlp,
-        ),
-        consumed: at,
-    }
-}
-
-// At a box header.
-fn header_step(jxlp: JxlpIndexState, s: &[u8]) -> StepResult
-    requires { ⌜ overIndex jxlp ≡ false ⌝ }
-    ensures { λ r. ⌜ told r ≡ numbered (Spec.headerStep jxlp (now (s .entry)) (headerOf (now (s .entry)))) ⌝ }
-{
-    let waiting = ContainerParser::at(DetectState::WaitingBoxHeader, jxlp);
-    match box_header::parse_header(s) {
-        HeaderParseResult::NeedMoreData => StepResult::Want {
-            next: waiting,
-            consumed: 0,
-        },
-        HeaderParseResult::Refused(refusal) => refuse(refusal, waiting, 0),
-        HeaderParseResult::Done {
-            header,
-            header_size,
-        } => {
-            let ty = header.ty;
-            let left = header.box_size;
-            box_step(jxlp, ty, left, s, header_size)
-        }
-    }
-}
-
-// The index awaited; 0 where no `jxlp` is open.
-fn awaited(jxlp: JxlpIndexState) -> u32
-    ensures { λ r. ⌜ r ≡ Spec.awaited jxlp ⌝ }
-{
-    match jxlp {
-        JxlpIndexState::Jxlp(i) => i,
-        JxlpIndexState::Initial => 0,
-        JxlpIndexState::SingleJxlc => 0,
-        JxlpIndexState::JxlpFinished => 0,
-    }
-}
-
-// A step by the record's state, with input there.
-fn state_step(p: ContainerParser, s: &[u8]) -> StepResult
-    requires { ⌜ impossible p ≡ false ⌝ }
-    ensures { λ r. ⌜ told r ≡ numbered (Spec.stateStep (p .state) (p .jxlp) (now (s .entry))) ⌝ }
-{
-    let state = p.state;
-    let jxlp = p.jxlp;
-    match state {
-        DetectState::WaitingSignature => signature_step(jxlp, s),
-        DetectState::WaitingBoxHeader => header_step(jxlp, s),
-        DetectState::WaitingJxlpIndex(left) => index_step(awaited(jxlp), left, s, 0),
-        DetectState::WaitingInnerType(left) => inner_step(jxlp, left, s, 0),
-        DetectState::InAuxBox {
-            ty,
-            bytes_left: left,
-        } => jxl_payloads::aux_step(jxlp, ty, left, s.len()),
-        DetectState::InCodestream {
-            kind,
-            bytes_left: left,
-            pending_no_more_aux_box,
-        } => code_step(jxlp, kind, left, pending_no_more_aux_box, s, 0),
-        DetectState::Refused { kind: _, refusal } => StepResult::Refused {
-            refusal,
-            next: p,
-            consumed: 0,
-        },
-    }
-}
+pub use jxl_totals::ContainerParser;
+pub use jxl_totals::FileRefusal;
 
 // One step of the parser on the input.
 pub fn step(parser: ContainerParser, input: &[u8]) -> StepResult
     ensures { λ r. ⌜ told r ≡ numbered (Spec.stepOf parser (now (input .entry))) ⌝ }
 {
-    let p = jxl_anew::same(parser);
-    if input.len() == 0 {
-        return empty_step(p);
+    let boxes = parser.boxes;
+    let total = parser.total;
+    let header = parser.header;
+    let n = visible(total, input.len());
+    let starts = at_header(boxes);
+    match jxl_boxes::step(boxes, &input[..n]) {
+        BoxResult::Shown {
+            event,
+            next,
+            consumed,
+        } => StepResult::Shown {
+            next: after(
+                next,
+                total + consumed as u64,
+                newest(starts, consumed, total, header),
+            ),
+            consumed,
+            event: FileEvent {
+                event,
+                total: total + consumed as u64,
+            },
+        },
+        BoxResult::Want { next, consumed } => {
+            let behind = total + consumed as u64;
+            let h = newest(starts, consumed, total, header);
+            if n == input.len() {
+                return StepResult::Want {
+                    next: after(next, behind, h),
+                    consumed,
+                };
+            }
+            limited(next, consumed, behind, h)
+        }
+        BoxResult::Refused {
+            next,
+            consumed,
+            refusal,
+        } => refused(
+            refusal,
+            next,
+            consumed,
+            total + consumed as u64,
+            looked_at(starts, total, header),
+        ),
     }
-    if p.is_impossible() {
-        return refuse(BoxRefusal::ImpossibleRecord, p, 0);
-    }
-    state_step(p, input)
 }

@@ -1,13 +1,12 @@
-// One step at the first 4 bytes of a payload that has a rule for them, after the Rust's container/parse.rs: a `jxlp` index, the inner
-// type of a `brob`. The input is lent whole, and the payload starts `at` bytes on.
+// One step at the index that a `jxlp` payload starts with, after the Rust's container/parse.rs, and whether the 4 bytes that a payload
+// starts with are there. The input is lent whole, and the payload starts `at` bytes on.
 use jxl_codestream::code_step;
-use jxl_events::ParseEvent;
 use jxl_headers::BytesLeft;
 use jxl_headers::box_header;
-use jxl_payloads::StepResult;
+use jxl_payloads::BoxResult;
 use jxl_payloads::refuse;
 use jxl_record::BitstreamKind;
-use jxl_record::ContainerParser;
+use jxl_record::BoxParser;
 use jxl_record::DetectState;
 use jxl_record::JxlpIndexState;
 use jxl_refusals::BoxRefusal;
@@ -15,13 +14,12 @@ ghost use mathlib.Core.Path.{_≡_};
 ghost use Prim.Native.Nat.{_-_};
 ghost use lib.Dec.{ltb};
 ghost use lib.ListN.{length, drop};
-ghost use Rattle.jxl_headers.specs.Types.{reserved};
 ghost use Rattle.jxl_grammar.specs.Naming.{numbered};
 ghost use Rattle.jxl_grammar.specs.Step as Spec;
 ghost use Rattle.jxl_payloads.specs.Told.{told};
 
 // Whether fewer than 4 bytes of the input stand behind its first `at`. The same tests as `be32_at` makes, so it makes none behind them.
-fn is_short(s: &[u8], at: usize) -> bool
+pub fn is_short(s: &[u8], at: usize) -> bool
     ensures { λ r. ⌜ r ≡ ltb (length (now (s .entry)) - at) 4 ⌝ }
 {
     if s.len() < 4 { true } else { s.len() - 4 < at }
@@ -39,12 +37,12 @@ fn row(word: u32, i: u32) -> JxlpIndexState
 }
 
 // A `jxlp` payload at `at`, whose index must be `i`.
-pub fn index_step(i: u32, left: BytesLeft, s: &[u8], at: usize) -> StepResult
+pub fn index_step(i: u32, left: BytesLeft, s: &[u8], at: usize) -> BoxResult
     ensures { λ r. ⌜ told r ≡ numbered (Spec.ahead at (Spec.indexStep i left (drop at (now (s .entry))))) ⌝ }
 {
-    let waiting = ContainerParser::at(DetectState::WaitingJxlpIndex(left), JxlpIndexState::Jxlp(i));
+    let waiting = BoxParser::at(DetectState::WaitingJxlpIndex(left), JxlpIndexState::Jxlp(i));
     if is_short(s, at) {
-        return StepResult::Want {
+        return BoxResult::Want {
             next: waiting,
             consumed: at,
         };
@@ -66,47 +64,4 @@ pub fn index_step(i: u32, left: BytesLeft, s: &[u8], at: usize) -> StepResult
         expected: i as u64,
     };
     refuse(refusal, waiting, at + 4)
-}
-
-// Whether the type may not stand inside a `brob`.
-fn is_reserved(ty: u32) -> bool
-    ensures { λ r. ⌜ r ≡ reserved ty ⌝ }
-{
-    if ty / 256 == 0x6a786c {
-        return true;
-    }
-    if ty == box_header::BROTLI_COMPRESSED {
-        return true;
-    }
-    ty == box_header::JPEG_RECONSTRUCTION
-}
-
-// A `brob` payload at `at`.
-pub fn inner_step(jxlp: JxlpIndexState, left: BytesLeft, s: &[u8], at: usize) -> StepResult
-    ensures { λ r. ⌜ told r ≡ numbered (Spec.ahead at (Spec.innerStep jxlp left (drop at (now (s .entry))))) ⌝ }
-{
-    let waiting = ContainerParser::at(DetectState::WaitingInnerType(left), jxlp);
-    if is_short(s, at) {
-        return StepResult::Want {
-            next: waiting,
-            consumed: at,
-        };
-    }
-    let ty = box_header::be32_at(s, at);
-    if is_reserved(ty) {
-        return refuse(BoxRefusal::ValidationFailed, waiting, at + 4);
-    }
-    let state = DetectState::InAuxBox {
-        ty,
-        bytes_left: left.less(4),
-    };
-    StepResult::Shown {
-        event: ParseEvent::AuxBoxStart {
-            ty,
-            brotli_compressed: true,
-            last_box: left.to_end(),
-        },
-        next: ContainerParser::at(state, jxlp),
-        consumed: at + 4,
-    }
 }

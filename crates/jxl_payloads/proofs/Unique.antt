@@ -5,10 +5,10 @@ use Rattle.jxl_refusals.specs.Refusals.{why}
 use Rattle.jxl_refusals.proofs.Telling.{why-tells}
 use Rattle.jxl_payloads.specs.Told.{told}
 use Rattle.jxl_payloads.specs.Theorems.{OneResult}
-use Rattle.jxl_payloads.specs.declared.StepResult.{StepResult}
-use Rattle.jxl_payloads.specs.declared.StepResult.the-variants as A
+use Rattle.jxl_payloads.specs.declared.BoxResult.{BoxResult}
+use Rattle.jxl_payloads.specs.declared.BoxResult.the-variants as A
 
-told-one : (x y : StepResult) → told x ≡ told y → x ≡ y
+told-one : (x y : BoxResult) → told x ≡ told y → x ≡ y
 told-one (A.Shown p n e) (A.Shown q m f) h = cc
 told-one (A.Shown p n e) (A.Want q m) h = cc
 told-one (A.Shown p n e) (A.Refused q m r) h = cc

@@ -2,7 +2,7 @@
 use jxl_headers::BytesLeft;
 use jxl_refusals::BoxRefusal;
 ghost use mathlib.Core.Path.{_≡_};
-ghost use Rattle.jxl_record.specs.Record.{at, fresh, impossible, kindOf, noIndex, overIndex};
+ghost use Rattle.jxl_record.specs.Record.{at, fresh, kindOf};
 
 // Structure of the decoded bitstream.
 pub enum BitstreamKind {
@@ -22,32 +22,6 @@ pub enum JxlpIndexState {
     SingleJxlc,
     Jxlp(u32),
     JxlpFinished,
-}
-
-impl JxlpIndexState {
-    // Whether the current `jxlp` index is above 2^31 - 1, where none is awaited.
-    pub fn over_index(self) -> bool
-        ensures { λ r. ⌜ r ≡ overIndex self ⌝ }
-    {
-        match self {
-            JxlpIndexState::Jxlp(i) => 0x8000_0000 <= i,
-            JxlpIndexState::Initial => false,
-            JxlpIndexState::SingleJxlc => false,
-            JxlpIndexState::JxlpFinished => false,
-        }
-    }
-
-    // Whether no `jxlp` is open, or its awaited index is above 2^31.
-    pub(crate) fn no_index(self) -> bool
-        ensures { λ r. ⌜ r ≡ noIndex self ⌝ }
-    {
-        match self {
-            JxlpIndexState::Jxlp(i) => 0x8000_0000 < i,
-            JxlpIndexState::Initial => true,
-            JxlpIndexState::SingleJxlc => true,
-            JxlpIndexState::JxlpFinished => true,
-        }
-    }
 }
 
 // What the parser waits for, or is inside of.
@@ -75,17 +49,17 @@ pub enum DetectState {
 }
 
 // The parser's whole state.
-pub struct ContainerParser {
+pub struct BoxParser {
     pub state: DetectState,
     pub jxlp: JxlpIndexState,
 }
 
-impl ContainerParser {
+impl BoxParser {
     // A new parser.
     pub fn new() -> Self
         ensures { λ r. ⌜ r ≡ fresh ⌝ }
     {
-        ContainerParser {
+        BoxParser {
             state: DetectState::WaitingSignature,
             jxlp: JxlpIndexState::Initial,
         }
@@ -95,7 +69,7 @@ impl ContainerParser {
     pub fn at(state: DetectState, jxlp: JxlpIndexState) -> Self
         ensures { λ r. ⌜ r ≡ at state jxlp ⌝ }
     {
-        ContainerParser { state, jxlp }
+        BoxParser { state, jxlp }
     }
 
     // The kind of bitstream: unknown before KIND, then KIND's.
@@ -118,41 +92,6 @@ impl ContainerParser {
                 pending_no_more_aux_box: _,
             } => kind,
             DetectState::Refused { kind, refusal: _ } => kind,
-        }
-    }
-
-    // Whether no file leads to this record.
-    pub fn is_impossible(self) -> bool
-        ensures { λ r. ⌜ r ≡ impossible self ⌝ }
-    {
-        let state = self.state;
-        let jxlp = self.jxlp;
-        match state {
-            DetectState::WaitingJxlpIndex(left) => {
-                if jxlp.no_index() { true } else { left.under(4) }
-            }
-            DetectState::WaitingInnerType(left) => {
-                if jxlp.over_index() {
-                    true
-                } else {
-                    left.under(4)
-                }
-            }
-            DetectState::Refused {
-                kind: _,
-                refusal: _,
-            } => false,
-            DetectState::WaitingSignature => jxlp.over_index(),
-            DetectState::WaitingBoxHeader => jxlp.over_index(),
-            DetectState::InAuxBox {
-                ty: _,
-                bytes_left: _,
-            } => jxlp.over_index(),
-            DetectState::InCodestream {
-                kind: _,
-                bytes_left: _,
-                pending_no_more_aux_box: _,
-            } => jxlp.over_index(),
         }
     }
 }
