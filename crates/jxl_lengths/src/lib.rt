@@ -55,6 +55,7 @@ pub fn line_length(line: Line) -> usize
             StopWord::Want => 11 + digits(consumed),
             StopWord::Refused1 => 15 + digits(consumed),
             StopWord::Refused2 => 15 + digits(consumed),
+            StopWord::Limit => 12 + digits(consumed),
         },
     }
 }

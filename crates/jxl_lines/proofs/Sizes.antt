@@ -1,11 +1,10 @@
 -- A line has at least 7 bytes and at most 56; some lines have 7, and some 56.
 use mathlib.Core.Bool.{Bool, true, false}
-use mathlib.Core.Path.{_≡_, refl}
+use mathlib.Core.Path.{_≡_}
 use mathlib.Core.List.{[], _∷_, _++_, append-assoc}
 use Prim.Native.Nat.{ℕ, _+_, _≤_}
 use native.Mathlib.Omega.{arith}
 use lib.ListN.{length, length-append}
-use Rattle.jxl_headers.specs.Bytes.{if}
 use Rattle.jxl_record.specs.declared.BitstreamKind.{BitstreamKind}
 use Rattle.jxl_record.specs.declared.BitstreamKind.the-variants as K
 use Rattle.jxl_events.specs.declared.ParseEvent.the-variants as E
@@ -13,7 +12,7 @@ use Rattle.jxl_lines.specs.Digits.{decimal}
 use Rattle.jxl_lines.specs.Lines.{kindWord, brobWord, endWord, stop, stopWord, rest, text}
 use Rattle.jxl_lines.specs.Theorems.{MostBytes, LeastBytes}
 use Rattle.jxl_lines.specs.declared.StopWord.{StopWord}
-use Rattle.jxl_lines.specs.declared.StopWord.the-variants.{Want, Refused1, Refused2}
+use Rattle.jxl_lines.specs.declared.StopWord.the-variants.{Want, Refused1, Refused2, Limit}
 use Rattle.jxl_lines.specs.declared.Line.the-variants.{Shown, Stopped}
 use Rattle.jxl_lines.proofs.Numbers.{decimal-most, type-length}
 
@@ -41,19 +40,7 @@ stop-most : (s : StopWord) → length (stopWord s) ≤ 8
 stop-most Want = omega arith
 stop-most Refused1 = omega arith
 stop-most Refused2 = omega arith
-
--- one of two words
-pub brob-either : (b : Bool) → if b (9 ∷ 98 ∷ 114 ∷ 111 ∷ 98 ∷ []) (9 ∷ 112 ∷ 108 ∷ 97 ∷ 105 ∷ 110 ∷ []) ≡ 9 ∷ brobWord b
-brob-either true = refl
-brob-either false = refl
-
-pub end-either : (b : Bool) → if b (9 ∷ 116 ∷ 111 ∷ 101 ∷ 110 ∷ 100 ∷ 10 ∷ []) (9 ∷ 98 ∷ 111 ∷ 117 ∷ 110 ∷ 100 ∷ 101 ∷ 100 ∷ 10 ∷ []) ≡ rest (endWord b ∷ [])
-end-either true = refl
-end-either false = refl
-
-pub end-either-size : (b : Bool) → length {A = ℕ} (if b (9 ∷ 116 ∷ 111 ∷ 101 ∷ 110 ∷ 100 ∷ 10 ∷ []) (9 ∷ 98 ∷ 111 ∷ 117 ∷ 110 ∷ 100 ∷ 101 ∷ 100 ∷ 10 ∷ [])) ≡ 2 + length (endWord b)
-end-either-size true = refl
-end-either-size false = refl
+stop-most Limit = omega arith
 
 pub start-size : (t : ℕ) (b e : Bool) → length (text (Shown (E.AuxBoxStart t b e))) ≡ 17 + length (brobWord b) + length (endWord e)
 start-size t b e = simp length-append (omega (arith, type-length t))

@@ -5,11 +5,12 @@ ghost use mathlib.Core.Path.{_≡_};
 ghost use Rattle.jxl_refusals.specs.Refusals.{why};
 ghost use Rattle.jxl_lines.specs.Lines.{printed};
 
-// Why a listing ends, as it is printed: more is wanted, or a refusal by its number in document 01.
+// Why a listing ends, as it is printed: more is wanted, a refusal by its number in document 01, or the limit of a file.
 pub enum StopWord {
     Want,
     Refused1,
     Refused2,
+    Limit,
 }
 
 impl StopWord {
@@ -19,6 +20,7 @@ impl StopWord {
     {
         match refusal {
             BoxRefusal::ValidationFailed => StopWord::Refused2,
+            BoxRefusal::StreamLimit => StopWord::Limit,
             BoxRefusal::ShortSize => StopWord::Refused1,
             BoxRefusal::ExtendedSize => StopWord::Refused1,
             BoxRefusal::SecondJxlc => StopWord::Refused1,

@@ -1,2 +1,2 @@
-pub mod Place
+pub mod Table
 pub mod Theorems

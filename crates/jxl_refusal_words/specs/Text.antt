@@ -2,7 +2,7 @@
 use mathlib.Core.List.{List, [], _∷_, _++_}
 use Prim.Native.Nat.{ℕ, _^_, _<_}
 use Rattle.jxl_refusals.specs.declared.BoxRefusal.{BoxRefusal}
-use Rattle.jxl_refusals.specs.declared.BoxRefusal.the-variants.{ShortSize, ExtendedSize, SecondJxlc, JxlcAfterJxlp, JxlpTooSmall, JxlpAfterJxlc, JxlpAfterLast, WrongIndex, BrobTooSmall, ImpossibleRecord, ValidationFailed}
+use Rattle.jxl_refusals.specs.declared.BoxRefusal.the-variants.{ShortSize, ExtendedSize, SecondJxlc, JxlcAfterJxlp, JxlpTooSmall, JxlpAfterJxlc, JxlpAfterLast, WrongIndex, BrobTooSmall, ImpossibleRecord, ValidationFailed, StreamLimit}
 use Rattle.jxl_lines.specs.Digits.{decimal}
 
 -- `box size from 2 to 7`
@@ -57,6 +57,10 @@ impossibleRecord = 105 ∷ 109 ∷ 112 ∷ 111 ∷ 115 ∷ 115 ∷ 105 ∷ 98 �
 abbrev pub validationFailed : List ℕ
 validationFailed = 114 ∷ 101 ∷ 115 ∷ 101 ∷ 114 ∷ 118 ∷ 101 ∷ 100 ∷ 32 ∷ 116 ∷ 121 ∷ 112 ∷ 101 ∷ 32 ∷ 105 ∷ 110 ∷ 32 ∷ 98 ∷ 114 ∷ 111 ∷ 98 ∷ []
 
+-- `more bytes than the 2^63 - 1 that a file may have`
+abbrev pub streamLimit : List ℕ
+streamLimit = 109 ∷ 111 ∷ 114 ∷ 101 ∷ 32 ∷ 98 ∷ 121 ∷ 116 ∷ 101 ∷ 115 ∷ 32 ∷ 116 ∷ 104 ∷ 97 ∷ 110 ∷ 32 ∷ 116 ∷ 104 ∷ 101 ∷ 32 ∷ 50 ∷ 94 ∷ 54 ∷ 51 ∷ 32 ∷ 45 ∷ 32 ∷ 49 ∷ 32 ∷ 116 ∷ 104 ∷ 97 ∷ 116 ∷ 32 ∷ 97 ∷ 32 ∷ 102 ∷ 105 ∷ 108 ∷ 101 ∷ 32 ∷ 109 ∷ 97 ∷ 121 ∷ 32 ∷ 104 ∷ 97 ∷ 118 ∷ 101 ∷ []
+
 -- the text of a refusal; of a wrong index as in `jxlp index 3 where 2 was expected`
 abbrev pub text : BoxRefusal → List ℕ
 text ShortSize = shortSize
@@ -70,6 +74,7 @@ text (WrongIndex found expected) = indexWord ++ (decimal found ++ (whereWord ++ 
 text BrobTooSmall = brobTooSmall
 text ImpossibleRecord = impossibleRecord
 text ValidationFailed = validationFailed
+text StreamLimit = streamLimit
 
 -- the index found fits 32 bits and the one expected 64, as those of the code do
 abbrev pub InRange : BoxRefusal → Type 0
@@ -84,3 +89,4 @@ InRange (WrongIndex found expected) = (found < 2 ^ 32) × (expected < 2 ^ 64)
 InRange BrobTooSmall = Unit {0}
 InRange ImpossibleRecord = Unit {0}
 InRange ValidationFailed = Unit {0}
+InRange StreamLimit = Unit {0}

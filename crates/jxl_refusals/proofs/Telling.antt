@@ -8,7 +8,7 @@ use Rattle.jxl_cuts.specs.Machine.{if}
 use Rattle.jxl_refusals.specs.Refusals.{Why, refusal, why}
 use Rattle.jxl_refusals.specs.Theorems.{WhyTells}
 use Rattle.jxl_refusals.specs.declared.BoxRefusal.{BoxRefusal}
-use Rattle.jxl_refusals.specs.declared.BoxRefusal.the-variants.{ShortSize, ExtendedSize, SecondJxlc, JxlcAfterJxlp, JxlpTooSmall, JxlpAfterJxlc, JxlpAfterLast, WrongIndex, BrobTooSmall, ImpossibleRecord, ValidationFailed}
+use Rattle.jxl_refusals.specs.declared.BoxRefusal.the-variants.{ShortSize, ExtendedSize, SecondJxlc, JxlcAfterJxlp, JxlpTooSmall, JxlpAfterJxlc, JxlpAfterLast, WrongIndex, BrobTooSmall, ImpossibleRecord, ValidationFailed, StreamLimit}
 
 abbrev ruleOf : Why → BoxRefusal
 ruleOf (refusal n values) =
@@ -21,7 +21,8 @@ ruleOf (refusal n values) =
     (if (eqb n 16) JxlpAfterLast
     (if (eqb n 17) (WrongIndex (getD values 1 0) (getD values 0 0))
     (if (eqb n 18) BrobTooSmall
-    (if (eqb n 19) ImpossibleRecord ValidationFailed)))))))))
+    (if (eqb n 19) ImpossibleRecord
+    (if (eqb n 20) StreamLimit ValidationFailed))))))))))
 
 again : (r : BoxRefusal) → ruleOf (why r) ≡ r
 again ShortSize = refl
@@ -35,6 +36,7 @@ again (WrongIndex found expected) = refl
 again BrobTooSmall = refl
 again ImpossibleRecord = refl
 again ValidationFailed = refl
+again StreamLimit = refl
 
 pub why-tells : WhyTells
 why-tells r q e = sym (again r) ∙ ap ruleOf e ∙ again q

@@ -1,10 +1,11 @@
--- The refusals of the container, by number: document 02, P2, which tells ten rules apart that document 01 calls refusal 1.
+-- The refusals of the container, by number: document 02, P2, which tells ten rules apart that document 01 calls refusal 1, and P3, which
+-- adds the limit of a file. The rules on boxes never give that one of their own; a record refused for it repeats it.
 use mathlib.Core.List.{List, [], _∷_}
 use Prim.Native.Nat.{ℕ}
 use lib.Dec.{ltb}
 use Rattle.jxl_cuts.specs.Machine.{if}
 use Rattle.jxl_refusals.specs.declared.BoxRefusal.{BoxRefusal}
-use Rattle.jxl_refusals.specs.declared.BoxRefusal.the-variants.{ShortSize, ExtendedSize, SecondJxlc, JxlcAfterJxlp, JxlpTooSmall, JxlpAfterJxlc, JxlpAfterLast, WrongIndex, BrobTooSmall, ImpossibleRecord, ValidationFailed}
+use Rattle.jxl_refusals.specs.declared.BoxRefusal.the-variants.{ShortSize, ExtendedSize, SecondJxlc, JxlcAfterJxlp, JxlpTooSmall, JxlpAfterJxlc, JxlpAfterLast, WrongIndex, BrobTooSmall, ImpossibleRecord, ValidationFailed, StreamLimit}
 
 -- a refusal: its number, and the values that it tells
 pub data Why : Type 0 where
@@ -30,8 +31,10 @@ why (WrongIndex found expected) = refusal 17 (expected ∷ found ∷ [])
 why BrobTooSmall = refusal 18 []
 why ImpossibleRecord = refusal 19 []
 why ValidationFailed = refusal 2 []
+why StreamLimit = refusal 20 []
 
--- document 01's naming: InvalidBox, which is refusal 1, for each of the ten; ValidationFailed is refusal 2
+-- document 01's naming: InvalidBox, which is refusal 1, for each of the ten; ValidationFailed is refusal 2. StreamLimit is not in it,
+-- and keeps its number
 abbrev pub inDocument01 : Naming
 inDocument01 ShortSize = refusal 1 []
 inDocument01 ExtendedSize = refusal 1 []
@@ -44,6 +47,7 @@ inDocument01 (WrongIndex found expected) = refusal 1 []
 inDocument01 BrobTooSmall = refusal 1 []
 inDocument01 ImpossibleRecord = refusal 1 []
 inDocument01 ValidationFailed = refusal 2 []
+inDocument01 StreamLimit = refusal 20 []
 
 -- numbers 10 to 19 merged back into 1; any other refusal as it is
 abbrev pub merged : Why → Why

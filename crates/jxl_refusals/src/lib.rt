@@ -27,6 +27,8 @@ pub enum BoxRefusal {
     ImpossibleRecord,
     // A reserved type inside a `brob`.
     ValidationFailed,
+    // Bytes beyond the limit of a file, where more is wanted.
+    StreamLimit,
 }
 
 impl BoxRefusal {
@@ -49,6 +51,7 @@ impl BoxRefusal {
             BoxRefusal::BrobTooSmall => 18,
             BoxRefusal::ImpossibleRecord => 19,
             BoxRefusal::ValidationFailed => 2,
+            BoxRefusal::StreamLimit => 20,
         }
     }
 }

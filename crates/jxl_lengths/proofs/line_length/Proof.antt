@@ -91,6 +91,15 @@ digits-requires-7 c κs = search needs
 add-result-7 : tie.Need-add-result-7
 add-result-7 c = search needs
 
+enum-told-10 : tie.Need-enum-told-10
+enum-told-10 c = search needs
+
+digits-requires-8 : tie.Need-digits-requires-8
+digits-requires-8 c κs = search needs
+
+add-result-8 : tie.Need-add-result-8
+add-result-8 c = search needs
+
 returns : tie.Need-returns
 returns c = search needs
 
@@ -136,6 +145,9 @@ returns-14 c = rw (c .before .before .before .before .line2 .given .1, stop-size
 returns-15 : tie.Need-returns-15
 returns-15 c = rw (c .before .before .before .before .line2 .given .1, stop-size, c .before .enum-told9 .given .1) (omega arith)
 
+returns-16 : tie.Need-returns-16
+returns-16 c = rw (c .before .before .before .before .line2 .given .1, stop-size, c .before .enum-told10 .given .1) (omega arith)
+
 pub line-length-spec : {M : Type 1} → statement M
 line-length-spec =
     tie.close
@@ -169,6 +181,9 @@ line-length-spec =
     enum-told-9
     digits-requires-7
     add-result-7
+    enum-told-10
+    digits-requires-8
+    add-result-8
     returns
     returns-2
     returns-3
@@ -183,4 +198,5 @@ line-length-spec =
     returns-12
     returns-13
     returns-14
-    returns-15)
+    returns-15
+    returns-16)

@@ -5,7 +5,6 @@ use lib.ListN.{length-set}
 use Rattle.jxl_lines.proofs.Bytes.{pasted-stored, pasted-then}
 use Rattle.jxl_lines.proofs.Numbers.{type-length}
 use Rattle.jxl_lines.proofs.Sizes.{end-size}
-use borrow.Author.Needs.{needs}
 use Rattle.jxl_listing.proofs.end_line.Statement.{statement}
 use Rattle.jxl_listing.proofs.end_line.Tie as tie
 
@@ -13,30 +12,43 @@ slice-aggregate-copy-in : tie.Need-slice-aggregate-copy-in
 slice-aggregate-copy-in c = refl
 
 copy-in-requires : tie.Need-copy-in-requires
-copy-in-requires c κs = search needs
+copy-in-requires c κs = tt
 
 put-type-requires : tie.Need-put-type-requires
-put-type-requires c κs = omega (arith, end-size (c .before .before .before .before .before .before .before .args .ty))
+put-type-requires c κs = tt
 
 slice-write-out : tie.Need-slice-write-out
 slice-write-out c =
-    let a = c .before .before .before .before .before .before .before .before .before .before .args in
-    omega (arith, end-size (a .ty), type-length (a .ty))
+    let words = c .before .before .before .before .before .before in
+    let a = words .before .before .before .before .args in
+    let size = end-size (a .ty) in
+    let eight = type-length (a .ty) in
+    let word = words .copy-in .ensures .fits (omega arith) in
+    let type = c .before .before .put-type .ensures .fits (omega arith) in
+    omega arith
 
 add-result : tie.Need-add-result
 add-result c =
-    let a = c .before .before .before .before .before .before .before .before .before .before .args in
-    omega (arith, end-size (a .ty), type-length (a .ty))
+    let words = c .before .before .before .before .before .before in
+    let a = words .before .before .before .before .args in
+    let size = end-size (a .ty) in
+    let eight = type-length (a .ty) in
+    let word = words .copy-in .ensures .fits (omega arith) in
+    let type = c .before .before .put-type .ensures .fits (omega arith) in
+    omega arith
 
 same-length : tie.Need-same-length
 same-length c = simp length-set (c .before .before .put-type .kept .0 ∙ c .before .before .before .before .before .before .copy-in .kept .0)
 
 returns : tie.Need-returns
 returns c =
-    let a = c .before .before .before .before .before .before .before .before .before .before .args in
-    pasted-then (c .before .before .before .before .before .before .copy-in .ensures)
-    (pasted-then (c .before .before .put-type .ensures)
-    (pasted-stored _ _ 10 [] (omega (arith, end-size (a .ty), type-length (a .ty)))))
+    let words = c .before .before .before .before .before .before in
+    let a = words .before .before .before .before .args in
+    let size = end-size (a .ty) in
+    let eight = type-length (a .ty) in
+    let word = words .copy-in .ensures .fits (omega arith) in
+    let type = c .before .before .put-type .ensures .fits (omega arith) in
+    pasted-then word (pasted-then type (pasted-stored _ _ 10 [] (omega arith)))
 
 pub end-line-spec : {M : Type 1} → statement M
 end-line-spec =

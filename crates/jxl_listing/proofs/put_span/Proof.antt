@@ -15,48 +15,68 @@ add-put-decimal : tie.Need-add-put-decimal
 add-put-decimal c = search needs
 
 put-decimal-requires : tie.Need-put-decimal-requires
-put-decimal-requires c κs =
-    let a = c .before .before .args in
-    omega (arith, span-size (a .place) (a .len), length-set (now (a .out)) (a .at) 9)
+put-decimal-requires c κs = tt
 
 slice-write-out-2 : tie.Need-slice-write-out-2
 slice-write-out-2 c =
-    let a = c .before .before .before .before .before .args in
-    omega (arith, span-size (a .place) (a .len), length-set (now (a .out)) (a .at) 9)
+    let first = c .before .before in
+    let a = first .before .before .before .args in
+    let size = span-size (a .place) (a .len) in
+    let tab = length-set (now (a .out)) (a .at) 9 in
+    let number = first .put-decimal .ensures .fits (omega arith) in
+    omega arith
 
 add-put-decimal-2 : tie.Need-add-put-decimal-2
 add-put-decimal-2 c =
-    let a = c .before .before .before .before .before .before .args in
-    omega (arith, span-size (a .place) (a .len), length-set (now (a .out)) (a .at) 9)
+    let first = c .before .before .before in
+    let a = first .before .before .before .args in
+    let size = span-size (a .place) (a .len) in
+    let tab = length-set (now (a .out)) (a .at) 9 in
+    let number = first .put-decimal .ensures .fits (omega arith) in
+    omega arith
 
 put-decimal-requires-2 : tie.Need-put-decimal-requires-2
-put-decimal-requires-2 c κs =
-    let a = c .before .before .before .before .before .before .args in
-    simp length-set (omega (arith, span-size (a .place) (a .len), length-set (now (a .out)) (a .at) 9))
+put-decimal-requires-2 c κs = tt
 
 slice-write-out-3 : tie.Need-slice-write-out-3
 slice-write-out-3 c =
-    let a = c .before .before .before .before .before .before .before .before .before .args in
-    omega (arith, span-size (a .place) (a .len), simp length-set at (c .before .before .before .before .before .before .put-decimal .kept .0), simp length-set at (c .before .before .put-decimal2 .kept .0))
+    let first = c .before .before .before .before .before .before in
+    let a = first .before .before .before .args in
+    let size = span-size (a .place) (a .len) in
+    let tab = length-set (now (a .out)) (a .at) 9 in
+    let number = first .put-decimal .ensures .fits (omega arith) in
+    let kept = simp length-set at (first .put-decimal .kept .0) in
+    let kept-too = simp length-set at (c .before .before .put-decimal2 .kept .0) in
+    let second = c .before .before .put-decimal2 .ensures .fits (simp length-set (omega arith)) in
+    omega arith
 
 add-result : tie.Need-add-result
 add-result c =
-    let a = c .before .before .before .before .before .before .before .before .before .args in
-    omega (arith, span-size (a .place) (a .len), length-set (now (a .out)) (a .at) 9)
+    let first = c .before .before .before .before .before .before in
+    let a = first .before .before .before .args in
+    let size = span-size (a .place) (a .len) in
+    let tab = length-set (now (a .out)) (a .at) 9 in
+    let number = first .put-decimal .ensures .fits (omega arith) in
+    let kept = simp length-set at (first .put-decimal .kept .0) in
+    let kept-too = simp length-set at (c .before .before .put-decimal2 .kept .0) in
+    let second = c .before .before .put-decimal2 .ensures .fits (simp length-set (omega arith)) in
+    omega arith
 
 same-length : tie.Need-same-length
 same-length c = simp length-set (omega (arith, simp length-set at (c .before .before .before .before .before .before .put-decimal .kept .0), simp length-set at (c .before .before .put-decimal2 .kept .0)))
 
 returns : tie.Need-returns
 returns c =
-    let a = c .before .before .before .before .before .before .before .before .before .args in
+    let first = c .before .before .before .before .before .before in
+    let a = first .before .before .before .args in
     let size = span-size (a .place) (a .len) in
-    let first = c .before .before .before .before .before .before .put-decimal .ensures in
-    let second = c .before .before .put-decimal2 .ensures in
-    let kept = simp length-set at (c .before .before .before .before .before .before .put-decimal .kept .0) in
+    let tab = length-set (now (a .out)) (a .at) 9 in
+    let number = first .put-decimal .ensures .fits (omega arith) in
+    let kept = simp length-set at (first .put-decimal .kept .0) in
     let kept-too = simp length-set at (c .before .before .put-decimal2 .kept .0) in
+    let second = c .before .before .put-decimal2 .ensures .fits (simp length-set (omega arith)) in
     pasted-then (pasted-stored (now (a .out)) (a .at) 9 [] (omega arith))
-    (pasted-then first
+    (pasted-then number
     (pasted-then (pasted-stored _ _ 9 [] (omega arith))
     (pasted-then second (pasted-stored _ _ 10 [] (omega arith)))))
 

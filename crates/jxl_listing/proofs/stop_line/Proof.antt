@@ -13,19 +13,23 @@ put-stop-requires c κs =
     omega (arith, stop-size (a .stop) (a .consumed), stop-start-size (a .stop))
 
 put-decimal-requires : tie.Need-put-decimal-requires
-put-decimal-requires c κs =
-    let a = c .before .before .before .before .before .before .args in
-    omega (arith, stop-size (a .stop) (a .consumed), stop-start-size (a .stop))
+put-decimal-requires c κs = tt
 
 slice-write-out : tie.Need-slice-write-out
 slice-write-out c =
     let a = c .before .before .before .before .before .before .before .before .before .args in
-    omega (arith, stop-size (a .stop) (a .consumed), stop-start-size (a .stop))
+    let whole = stop-size (a .stop) (a .consumed) in
+    let start = stop-start-size (a .stop) in
+    let number = c .before .before .put-decimal .ensures .fits (omega arith) in
+    omega arith
 
 add-result : tie.Need-add-result
 add-result c =
     let a = c .before .before .before .before .before .before .before .before .before .args in
-    omega (arith, stop-size (a .stop) (a .consumed), stop-start-size (a .stop))
+    let whole = stop-size (a .stop) (a .consumed) in
+    let start = stop-start-size (a .stop) in
+    let number = c .before .before .put-decimal .ensures .fits (omega arith) in
+    omega arith
 
 same-length : tie.Need-same-length
 same-length c = simp length-set (c .before .before .put-decimal .kept .0 ∙ c .before .before .before .before .before .before .put-stop .kept .0)
@@ -33,10 +37,12 @@ same-length c = simp length-set (c .before .before .put-decimal .kept .0 ∙ c .
 returns : tie.Need-returns
 returns c =
     let a = c .before .before .before .before .before .before .before .before .before .args in
+    let whole = stop-size (a .stop) (a .consumed) in
+    let start = stop-start-size (a .stop) in
+    let number = c .before .before .put-decimal .ensures .fits (omega arith) in
     pasted-as (stop-text (a .stop) (a .consumed))
     (pasted-then (c .before .before .before .before .before .before .put-stop .ensures)
-    (pasted-then (c .before .before .put-decimal .ensures)
-    (pasted-stored _ _ 10 [] (omega (arith, stop-size (a .stop) (a .consumed), stop-start-size (a .stop))))))
+    (pasted-then number (pasted-stored _ _ 10 [] (omega arith))))
 
 pub stop-line-spec : {M : Type 1} → statement M
 stop-line-spec =

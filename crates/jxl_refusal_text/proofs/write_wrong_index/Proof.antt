@@ -1,9 +1,8 @@
 use mathlib.Core.Path.{refl, _∙_}
 use mathlib.Core.List.{append-assoc}
 use native.Mathlib.Omega.{arith}
-use Rattle.jxl_lines.proofs.Bytes.{pasted-then}
-use Rattle.jxl_refusal_words.specs.Text.{expectedWord}
-use Rattle.jxl_refusal_text.proofs.Places.{put-last}
+use Rattle.jxl_lines.proofs.Bytes.{pasted-as, pasted-then}
+use Rattle.jxl_lines.proofs.Putting.{room}
 use Rattle.jxl_refusal_words.proofs.Sizes.{wrong-index-size}
 use Rattle.jxl_refusal_text.proofs.write_wrong_index.Statement.{statement}
 use Rattle.jxl_refusal_text.proofs.write_wrong_index.Tie as tie
@@ -24,24 +23,24 @@ put-both-requires-2 c κs =
     let a = c .before .before .before .before .before .before .before .before .args in
     omega (arith, wrong-index-size (a .found) (a .expected))
 
-slice-aggregate-put-words : tie.Need-slice-aggregate-put-words
-slice-aggregate-put-words c = refl
+slice-aggregate-copy-in : tie.Need-slice-aggregate-copy-in
+slice-aggregate-copy-in c = refl
 
-put-words-requires : tie.Need-put-words-requires
-put-words-requires c κs = tt
+copy-in-requires : tie.Need-copy-in-requires
+copy-in-requires c κs = tt
 
 same-length : tie.Need-same-length
 same-length c =
     let second = c .before .before .before .before .before .before .before in
-    c .before .before .put-words .kept .0 ∙ second .put-both2 .kept .0 ∙ second .before .before .before .before .before .put-both .kept .0
+    c .before .before .copy-in .kept .0 ∙ second .put-both2 .kept .0 ∙ second .before .before .before .before .before .put-both .kept .0
 
 returns : tie.Need-returns
 returns c =
     let second = c .before .before .before .before .before .before .before in
     let first = second .before .before .before .before .before in
     let a = first .before .before .before .before .args in
-    put-last _ _ expectedWord (omega (arith, wrong-index-size (a .found) (a .expected))) (c .before .before .put-words .ensures)
-    (simp append-assoc) (pasted-then (first .put-both .ensures) (second .put-both2 .ensures))
+    let last = c .before .before .copy-in .ensures .fits (omega (arith, wrong-index-size (a .found) (a .expected))) in
+    room (pasted-as (simp append-assoc) (pasted-then (pasted-then (first .put-both .ensures) (second .put-both2 .ensures)) last))
 
 pub write-wrong-index-spec : {M : Type 1} → statement M
 write-wrong-index-spec =
@@ -51,7 +50,7 @@ write-wrong-index-spec =
     put-both-requires
     slice-aggregate-put-both-2
     put-both-requires-2
-    slice-aggregate-put-words
-    put-words-requires
+    slice-aggregate-copy-in
+    copy-in-requires
     same-length
     returns)
