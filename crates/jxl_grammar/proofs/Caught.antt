@@ -1,22 +1,30 @@
--- The parsers that are to be caught list a bare file of two bytes otherwise than the grammar does.
+-- The parsers that are to be caught list a bare file of two bytes otherwise than the grammar does: it has three events and wants more.
 use mathlib.Core.Path.{_≡_, ap}
-use mathlib.Core.List.{List, [], _∷_}
+use mathlib.Core.List.{[], _∷_}
 use Prim.Native.Nat.{ℕ}
 use native.Mathlib.Omega.{arith}
+use lib.ListN.{length}
 use Rattle.jxl_signatures.specs.Signature.{signatureOf}
 use Rattle.jxl_grammar.specs.Step.{stepOf}
-use Rattle.jxl_cuts.specs.Feeding.{taking, fed}
+use Rattle.jxl_cuts.specs.Feeding.{Stop, want, refused, taking, fed}
 use Rattle.jxl_refusals.specs.Refusals.{Why}
 use Rattle.jxl_grammar.specs.Grammar.{ListingBy, file}
 use Rattle.jxl_grammar.specs.Theorems.{Caught}
-use Rattle.jxl_base.proofs.Never.{never}
+
+-- what tells the listings apart, in numbers
+abbrev refusals : Stop Why → ℕ
+refusals want = 0
+refusals (refused r) = 1
+
+abbrev count : ListingBy Why → ℕ
+count l = length (l .events)
 
 pub caught : Caught
 unfolding file signatureOf stepOf taking fed
 caught =
     record {
-      refuses-caught = λ every. let wrong = ap (λ (l : ListingBy Why). l .stop) (every (0xff ∷ 0x0a ∷ [])) in never cc;
-      invalid-caught = λ every. let wrong = ap (λ (l : ListingBy Why). l .events) (every (0xff ∷ 0x0a ∷ [])) in never cc;
-      wants-caught = λ every. let wrong = ap (λ (l : ListingBy Why). l .events) (every (0xff ∷ 0x0a ∷ [])) in never cc;
-      first-caught = λ every. let wrong = ap (λ (l : ListingBy Why). l .events) (every (0xff ∷ 0x0a ∷ [])) in never cc;
+      refuses-caught = λ every. let wrong : _≡_ {A = ℕ} 1 0 = ap (λ (l : ListingBy Why). refusals (l .stop)) (every (0xff ∷ 0x0a ∷ [])) in absurd (omega arith);
+      invalid-caught = λ every. let wrong : _≡_ {A = ℕ} 12 3 = ap count (every (0xff ∷ 0x0a ∷ [])) in absurd (omega arith);
+      wants-caught = λ every. let wrong : _≡_ {A = ℕ} 0 3 = ap count (every (0xff ∷ 0x0a ∷ [])) in absurd (omega arith);
+      first-caught = λ every. let wrong : _≡_ {A = ℕ} 1 3 = ap count (every (0xff ∷ 0x0a ∷ [])) in absurd (omega arith);
     }

@@ -12,7 +12,8 @@ use lib.Seq.{drop-append-le}
 use borrow.Author.Tests.{le-ltb, le-leb, lt-leb, eq-eqb, ne-eqb, ltb-true, ltb-false, leb-true, leb-false, eqb-true, eqb-false}
 use Rattle.jxl_headers.specs.Bytes.{if, and, or, be32}
 use Rattle.jxl_reach.specs.Reach.{under, less, toEnd}
-use Rattle.jxl_record.specs.Record.{at, overIndex, impossibleIn, impossible, isRefused}
+use Rattle.jxl_record.specs.Record.{at, isRefused}
+use Rattle.jxl_impossible.specs.Impossible.{overIndex, impossibleIn, impossible}
 use Rattle.jxl_headers.specs.Header.{Header, short, bad, box, headerOf}
 use Rattle.jxl_signatures.specs.Signature.{signatureOf}
 use Rattle.jxl_headers.specs.Types.{jxlc, jxlp, brob, reserved}
@@ -31,7 +32,7 @@ use Rattle.jxl_record.specs.declared.JxlpIndexState.{JxlpIndexState}
 use Rattle.jxl_record.specs.declared.JxlpIndexState.the-variants.{Initial, SingleJxlc, Jxlp, JxlpFinished}
 use Rattle.jxl_record.specs.declared.DetectState.{DetectState}
 use Rattle.jxl_record.specs.declared.DetectState.the-variants as S
-use Rattle.jxl_record.specs.declared.ContainerParser.{ContainerParser}
+use Rattle.jxl_record.specs.declared.BoxParser.{BoxParser}
 use Rattle.jxl_events.specs.declared.ParseEvent.the-variants as E
 use Rattle.jxl_cuts.specs.Lawful.{Cut as AnyCut, same, grows, later, final}
 use Rattle.jxl_cuts.proofs.Ahead.{cut-ahead}
@@ -52,7 +53,7 @@ aux-joins : (t n : ℕ) → and (eqb t t) (eqb (0 + n) (n + 0)) ≡ true
 aux-joins t n = rw (eq-eqb t t refl, code-joins n)
 
 -- a record that a file leads to and that is not refused steps by its state, where its rule wants more of an empty input
-step-any : (p : ContainerParser) (s : List ℕ) → impossible p ≡ false → isRefused p ≡ false
+step-any : (p : BoxParser) (s : List ℕ) → impossible p ≡ false → isRefused p ≡ false
     → stateStep (p .state) (p .jxlp) [] ≡ wants p 0 → stepOf p s ≡ stateStep (p .state) (p .jxlp) s
 step-any p [] i r e = step-empty p r ∙ sym e
 step-any p (x ∷ s) i r e = step-state p (x ∷ s) (omega arith) i
@@ -305,7 +306,7 @@ cut-state (S.InCodestream k l pending) j a b o = cut-code j o k l pending a b
 cut-state (S.Refused k r) j a b o = final refl
 
 -- every record and every input
-pub cut-step : (p : ContainerParser) (a b : List ℕ) → Cut a b (stepOf p (a ++ b)) (stepOf p a)
+pub cut-step : (p : BoxParser) (a b : List ℕ) → Cut a b (stepOf p (a ++ b)) (stepOf p a)
 cut-step p a b = go (isRefused p) refl a
   where
     some : (a : List ℕ) → 0 < length a → (t : Bool) → impossible p ≡ t → Cut a b (stepOf p (a ++ b)) (stepOf p a)

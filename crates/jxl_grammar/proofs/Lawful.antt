@@ -12,7 +12,7 @@ use Rattle.jxl_grammar.specs.Step.{Told, stepOf}
 use Rattle.jxl_grammar.specs.Laws as Step
 use Rattle.jxl_grammar.proofs.Step.{step-empty}
 use Rattle.jxl_grammar.proofs.Laws.{every-step, stays}
-use Rattle.jxl_record.specs.declared.ContainerParser.{ContainerParser}
+use Rattle.jxl_record.specs.declared.BoxParser.{BoxParser}
 use Rattle.jxl_cuts.specs.Machine.{shows, wants, refuses}
 use Rattle.jxl_cuts.specs.Lawful.{Open, Repeats, Kept}
 use Rattle.jxl_grammar.specs.Parser.{parser}
@@ -26,7 +26,7 @@ kept n (shows e p c) k = k
 kept n (wants p c) k = k
 kept n (refuses w p c) k = k
 
-empty : (p : ContainerParser) → Open parser p ⊎ ((w : BoxRefusal) × Repeats parser w p)
+empty : (p : BoxParser) → Open parser p ⊎ ((w : BoxRefusal) × Repeats parser w p)
 empty p = go (isRefused p) refl
   where
     go : (t : Bool) → isRefused p ≡ t → Open parser p ⊎ ((w : BoxRefusal) × Repeats parser w p)

@@ -10,7 +10,8 @@ use borrow.Author.Tests.{ltb-true, ltb-false, leb-true, leb-false, eqb-true, eqb
 use Rattle.jxl_headers.specs.Bytes.{if, be32}
 use Rattle.jxl_signatures.specs.Signature.{signatureOf}
 use Rattle.jxl_reach.specs.Reach.{under, less, toEnd}
-use Rattle.jxl_record.specs.Record.{at, refusedIn, isRefused, impossible}
+use Rattle.jxl_record.specs.Record.{at, refusedIn, isRefused}
+use Rattle.jxl_impossible.specs.Impossible.{impossible}
 use Rattle.jxl_headers.specs.Types.{jxlc, jxlp, brob, reserved}
 use Rattle.jxl_headers.specs.Header.{Header, short, bad, box, headerOf}
 use Rattle.jxl_grammar.specs.Step.{Told, shows, wants, refuses, refuse, ahead, codePart, codeStep, auxPart, row, indexStep, innerStep, jxlcStep, jxlpNext, boxStep, headerStep, signatureStep, awaited, stateStep, stepOf}
@@ -30,7 +31,7 @@ use Rattle.jxl_record.specs.declared.JxlpIndexState.{JxlpIndexState}
 use Rattle.jxl_record.specs.declared.JxlpIndexState.the-variants.{Initial, SingleJxlc, Jxlp, JxlpFinished}
 use Rattle.jxl_record.specs.declared.DetectState.{DetectState}
 use Rattle.jxl_record.specs.declared.DetectState.the-variants as S
-use Rattle.jxl_record.specs.declared.ContainerParser.{ContainerParser}
+use Rattle.jxl_record.specs.declared.BoxParser.{BoxParser}
 use Rattle.jxl_refusals.specs.declared.BoxRefusal.{BoxRefusal}
 use Rattle.jxl_events.specs.declared.ParseEvent.{ParseEvent}
 use Rattle.jxl_events.specs.declared.ParseEvent.the-variants as E
@@ -51,7 +52,7 @@ stays-in (S.InAuxBox t l) j e = absurd (let z : _≡_ {A = ℕ} 0 1 = cc in omeg
 stays-in (S.InCodestream k l pending) j e = absurd (let z : _≡_ {A = ℕ} 0 1 = cc in omega arith)
 stays-in (S.Refused k r) j e = (r, refused-repeats k r j)
 
-pub stays : (p : ContainerParser) → isRefused p ≡ true → (w : BoxRefusal) × Repeats w p
+pub stays : (p : BoxParser) → isRefused p ≡ true → (w : BoxRefusal) × Repeats w p
 stays p e = stays-in (p .state) (p .jxlp) e
 
 inside-ahead : (k n : ℕ) (e : ParseEvent) → k ≤ n → Inside e (n - k) → Inside (shifted k e) n
@@ -68,7 +69,7 @@ kept-ahead k s (shows e p c) h i =
 kept-ahead k s (wants p c) h i = (omega (arith, length-drop k s), omega (arith, length-drop k s))
 kept-ahead k s (refuses r p c) h i = (omega (arith, length-drop k s), i .1)
 
-kept-refuse : (r : BoxRefusal) (p : ContainerParser) (c n : ℕ) → c ≤ n → Kept n (refuse r p c)
+kept-refuse : (r : BoxRefusal) (p : BoxParser) (c n : ℕ) → c ≤ n → Kept n (refuse r p c)
 kept-refuse r p c n h = (h, refused-repeats _ r (p .jxlp))
 
 kept-part : (j : JxlpIndexState) (k : BitstreamKind) (l : BytesLeft) (n : ℕ) → Kept n (codePart j k l n)
@@ -115,7 +116,7 @@ kept-inner j l s = go (ltb (length s) 4) refl (reserved (be32 s 0)) refl
         rw (inner-reserved j l s h f) (kept-refuse _ (at (S.WaitingInnerType l) j) 4 (length s) h)
     go false e false f = rw (inner-shows j l s (ltb-false (length s) 4 e) f) (ltb-false (length s) 4 e, tt)
 
-kept-none : (r : BoxRefusal) (p : ContainerParser) (s : List ℕ) → Kept (length s) (refuse r p 0)
+kept-none : (r : BoxRefusal) (p : BoxParser) (s : List ℕ) → Kept (length s) (refuse r p 0)
 kept-none r p s = kept-refuse r p 0 (length s) (omega arith)
 
 kept-jxlc : (j : JxlpIndexState) (l : BytesLeft) (s : List ℕ) → Kept (length s) (jxlcStep j l s)

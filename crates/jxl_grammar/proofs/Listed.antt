@@ -11,7 +11,8 @@ use lib.Seq.{drop-drop, drop-length}
 use borrow.Author.Tests.{ne-eqb, ltb-true, ltb-false, leb-true, leb-false, eqb-true, eqb-false}
 use Rattle.jxl_headers.specs.Bytes.{if, be32}
 use Rattle.jxl_reach.specs.Reach.{under, less, toEnd}
-use Rattle.jxl_record.specs.Record.{at, overIndex, impossibleIn, impossible, refusedIn, isRefused}
+use Rattle.jxl_record.specs.Record.{at, refusedIn, isRefused}
+use Rattle.jxl_impossible.specs.Impossible.{overIndex, impossibleIn, impossible}
 use Rattle.jxl_headers.specs.Header.{Header, short, bad, box, headerOf}
 use Rattle.jxl_signatures.specs.Signature.{signatureOf}
 use Rattle.jxl_headers.specs.Types.{jxlc, jxlp, brob, reserved}
@@ -33,7 +34,7 @@ use Rattle.jxl_record.specs.declared.JxlpIndexState.{JxlpIndexState}
 use Rattle.jxl_record.specs.declared.JxlpIndexState.the-variants.{Initial, SingleJxlc, Jxlp, JxlpFinished}
 use Rattle.jxl_record.specs.declared.DetectState.{DetectState}
 use Rattle.jxl_record.specs.declared.DetectState.the-variants as S
-use Rattle.jxl_record.specs.declared.ContainerParser.{ContainerParser}
+use Rattle.jxl_record.specs.declared.BoxParser.{BoxParser}
 use Rattle.jxl_grammar.specs.Grammar.{want, refused, Listing, ends, then, Codestreams, none, single, upTo, whole, coded, code, closed, aux, row, indexed, inner, jxlcBox, jxlpBox, boxed, boxes, bare, signed}
 use Rattle.jxl_grammar.specs.Feeding.{Seen, Takes, more, waits}
 use Rattle.jxl_grammar.specs.Feeding as Feeding
@@ -59,7 +60,7 @@ restIn turns (S.InCodestream k l pending) j at s = code pending l at s (boxes tu
 restIn turns (S.Refused k r) j at s = ends (refused r) at
 
 -- the listing of all the bytes that are still to come
-abbrev pub rest : ℕ → ContainerParser → ℕ → List ℕ → Listing
+abbrev pub rest : ℕ → BoxParser → ℕ → List ℕ → Listing
 rest turns p at s = restIn turns (p .state) (p .jxlp) at s
 
 -- a step on `s`, which stands at `a`, and the listing of `s`
@@ -230,7 +231,7 @@ lists-refused m a (S.InAuxBox t l) j r s = never r
 lists-refused m a (S.InCodestream k l pending) j r s = never r
 lists-refused m a (S.Refused k n) j r s = rw (refused-repeats k n j s, add-zero a)
 
-lists-step : (m a : ℕ) (p : ContainerParser) (s : List ℕ) → impossible p ≡ false → length s ≤ m → Lists a s (rest m p a s) (stepOf p s)
+lists-step : (m a : ℕ) (p : BoxParser) (s : List ℕ) → impossible p ≡ false → length s ≤ m → Lists a s (rest m p a s) (stepOf p s)
 lists-step m a p [] i h = go (isRefused p) refl
   where
     go : (t : Bool) → isRefused p ≡ t → Lists a [] (rest m p a []) (stepOf p [])
@@ -239,7 +240,7 @@ lists-step m a p [] i h = go (isRefused p) refl
 lists-step m a p (x ∷ s) i h = rw (step-state p (x ∷ s) (omega arith) i) (lists-state m a (p .state) (p .jxlp) i x s h)
 
 -- what is taken of an input is what the grammar lists of it
-pub listed : (m : ℕ) (p : ContainerParser) (a : ℕ) (s : List ℕ) {r : Seen} {u : List ℕ} → impossible p ≡ false → length s ≤ m → Takes p a s r u
+pub listed : (m : ℕ) (p : BoxParser) (a : ℕ) (s : List ℕ) {r : Seen} {u : List ℕ} → impossible p ≡ false → length s ≤ m → Takes p a s r u
     → rest m p a s ≡ listing r
 listed m p a s i h (more {q = q} {c = c} {e = e} k t) =
     let step = rw k at (lists-step m a p s i h) in

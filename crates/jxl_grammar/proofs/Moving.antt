@@ -12,7 +12,7 @@ use Rattle.jxl_events.specs.declared.ParseEvent.{ParseEvent}
 use Rattle.jxl_events.specs.declared.ParseEvent.the-variants as E
 use Rattle.jxl_cuts.specs.Machine.{further}
 use Rattle.jxl_cuts.specs.Lawful.{Moves}
-use Rattle.jxl_joiner.specs.Joined.{codeAt, auxAt, joins, longer}
+use Rattle.jxl_parts.specs.Joined.{codeAt, auxAt, joins, longer}
 use Rattle.jxl_grammar.specs.Parser.{parser}
 
 shift-payload : (n : ℕ) (e : ParseEvent) → payload (shifted n e) ≡ further n (payload e)

@@ -12,7 +12,8 @@ use borrow.Author.Tests.{ltb-true, ltb-false, leb-true, leb-false, eqb-true, eqb
 use Rattle.jxl_headers.specs.Bytes.{if, be32}
 use Rattle.jxl_refusals.specs.declared.BoxRefusal.{BoxRefusal}
 use Rattle.jxl_reach.specs.Reach.{under, less, toEnd}
-use Rattle.jxl_record.specs.Record.{at, impossible, isRefused}
+use Rattle.jxl_record.specs.Record.{at, isRefused}
+use Rattle.jxl_impossible.specs.Impossible.{impossible}
 use Rattle.jxl_headers.specs.Header.{Header, short, bad, box, headerOf}
 use Rattle.jxl_signatures.specs.Signature.{signatureOf}
 use Rattle.jxl_headers.specs.Types.{jxlc, jxlp, brob, reserved}
@@ -31,12 +32,12 @@ use Rattle.jxl_record.specs.declared.JxlpIndexState.{JxlpIndexState}
 use Rattle.jxl_record.specs.declared.JxlpIndexState.the-variants.{Initial, SingleJxlc, Jxlp, JxlpFinished}
 use Rattle.jxl_record.specs.declared.DetectState.{DetectState}
 use Rattle.jxl_record.specs.declared.DetectState.the-variants as S
-use Rattle.jxl_record.specs.declared.ContainerParser.{ContainerParser}
+use Rattle.jxl_record.specs.declared.BoxParser.{BoxParser}
 use Rattle.jxl_events.specs.declared.ParseEvent.{ParseEvent}
 use Rattle.jxl_events.specs.declared.ParseEvent.the-variants as E
 use Rattle.jxl_cuts.specs.Lawful.{Paid}
 use Rattle.jxl_cuts.proofs.Ahead.{paid-ahead, paid-more}
-use Rattle.jxl_joiner.specs.Joined.{codeAt, joins}
+use Rattle.jxl_parts.specs.Joined.{codeAt, joins}
 use Rattle.jxl_grammar.specs.Parser.{parser}
 use Rattle.jxl_base.proofs.Never.{never}
 
@@ -58,7 +59,7 @@ weightIn (S.InAuxBox t l) = auxWeight l
 weightIn (S.InCodestream k l pending) = codeWeight pending
 weightIn (S.Refused k r) = 0
 
-abbrev pub weight : ContainerParser → ℕ
+abbrev pub weight : BoxParser → ℕ
 weight p = weightIn (p .state)
 
 aux-weight : (l : BytesLeft) → auxWeight l ≤ 5
@@ -70,7 +71,7 @@ aux-weight (Bytes m) = go (eqb m 0)
     go false = omega arith
 
 -- an event, the record behind it, and the bytes consumed of n: where input is left, the event's payload is over
-abbrev Loose : ℕ → ParseEvent → ContainerParser → ℕ → Type 0
+abbrev Loose : ℕ → ParseEvent → BoxParser → ℕ → Type 0
 Loose n (E.BitstreamKind k) q c = Unit {0}
 Loose n E.NoMoreAuxBox q c = Unit {0}
 Loose n (E.Codestream x l) q c = (x + l ≡ c) × ((n ≤ c) ⊎ (q .state ≡ S.WaitingBoxHeader))
@@ -88,7 +89,7 @@ Over n (refuses r q c) = Unit {0}
 abbrev Sound : ℕ → ℕ → Told → Type 0
 Sound w n t = Paid parser weight w n t × Over n t
 
-loose-ahead : (k n : ℕ) (e : ParseEvent) (q : ContainerParser) (c : ℕ) → k ≤ n → Loose (n - k) e q c → Loose n (shifted k e) q (k + c)
+loose-ahead : (k n : ℕ) (e : ParseEvent) (q : BoxParser) (c : ℕ) → k ≤ n → Loose (n - k) e q c → Loose n (shifted k e) q (k + c)
 loose-ahead k n (E.BitstreamKind x) q c h i = tt
 loose-ahead k n E.NoMoreAuxBox q c h i = tt
 loose-ahead k n (E.Codestream x l) q c h (e, inl d) = (omega arith, inl (omega arith))
@@ -180,7 +181,7 @@ sound-next (Jxlp i) l s = sound-more 2 8 (length s) (indexStep (i + 1) l s) (ome
 sound-next JxlpFinished l s = (tt, tt)
 
 -- a rule, or a refusal
-sound-if : (w n : ℕ) (u : Bool) (r : BoxRefusal) (p : ContainerParser) (c : ℕ) (t : Told) → Sound w n t → Sound w n (if u (refuses r p c) t)
+sound-if : (w n : ℕ) (u : Bool) (r : BoxRefusal) (p : BoxParser) (c : ℕ) (t : Told) → Sound w n t → Sound w n (if u (refuses r p c) t)
 sound-if w n true r p c t i = (tt, tt)
 sound-if w n false r p c t i = i
 
@@ -220,7 +221,7 @@ sound-state (S.InCodestream k l pending) j s h = sound-code j k l pending s
 sound-state (S.Refused k r) j s h = (tt, tt)
 
 -- every record and every input
-pub sound : (p : ContainerParser) (s : List ℕ) → Sound (weight p) (length s) (stepOf p s)
+pub sound : (p : BoxParser) (s : List ℕ) → Sound (weight p) (length s) (stepOf p s)
 sound p s = go s (isRefused p) refl (impossible p) refl
   where
     go : (s : List ℕ) (t : Bool) → isRefused p ≡ t → (u : Bool) → impossible p ≡ u → Sound (weight p) (length s) (stepOf p s)
@@ -230,14 +231,14 @@ sound p s = go s (isRefused p) refl (impossible p) refl
     go (x ∷ s) t r false i = rw (step-state p (x ∷ s) (omega arith) i) (sound-state (p .state) (p .jxlp) (x ∷ s) (omega arith))
 
 -- no event comes of an empty input
-none-of-none : (p : ContainerParser) {e : ParseEvent} {q : ContainerParser} {c : ℕ} → stepOf p [] ≡ shows e q c → ⊥
+none-of-none : (p : BoxParser) {e : ParseEvent} {q : BoxParser} {c : ℕ} → stepOf p [] ≡ shows e q c → ⊥
 none-of-none p h = go (isRefused p) refl
   where
     go : (t : Bool) → isRefused p ≡ t → ⊥
     go true r = never (cc (stays p r .1 []))
     go false r = never (cc (step-empty p r))
 
-pub weight-most : (p : ContainerParser) → weight p ≤ 9
+pub weight-most : (p : BoxParser) → weight p ≤ 9
 weight-most p = go (p .state)
   where
     go : (d : DetectState) → weightIn d ≤ 9
@@ -290,7 +291,7 @@ far-step j (x ∷ s) = go (impossible (at S.WaitingBoxHeader j)) refl
     go false i = rw (step-state (at S.WaitingBoxHeader j) (x ∷ s) (omega arith) i) (far-header j (x ∷ s) (headerOf (x ∷ s)) refl)
 
 -- a side box with nothing left shows its end
-end-step : (j : JxlpIndexState) (t : ℕ) (s : List ℕ) {f : ParseEvent} {q : ContainerParser} {d : ℕ} → stepOf (at (S.InAuxBox t (Bytes 0)) j) s ≡ shows f q d → f ≡ E.AuxBoxEnd t
+end-step : (j : JxlpIndexState) (t : ℕ) (s : List ℕ) {f : ParseEvent} {q : BoxParser} {d : ℕ} → stepOf (at (S.InAuxBox t (Bytes 0)) j) s ≡ shows f q d → f ≡ E.AuxBoxEnd t
 end-step j t [] h = absurd (none-of-none (at (S.InAuxBox t (Bytes 0)) j) h)
 end-step j t (x ∷ s) {f} h = go (impossible (at (S.InAuxBox t (Bytes 0)) j)) refl
   where
@@ -299,7 +300,7 @@ end-step j t (x ∷ s) {f} h = go (impossible (at (S.InAuxBox t (Bytes 0)) j)) r
     go false i = cc (step-state (at (S.InAuxBox t (Bytes 0)) j) (x ∷ s) (omega arith) i)
 
 -- two events of one input never join
-module _ (q : ContainerParser) (c : ℕ) (s : List ℕ) where
+module _ (q : BoxParser) (c : ℕ) (s : List ℕ) where
   code-apart : (x l : ℕ) → x + l ≡ c → (f : ParseEvent) → FarEvent f → codeAt (x + l) (shifted c f) ≡ false
   code-apart x l e (E.BitstreamKind k) h = refl
   code-apart x l e E.NoMoreAuxBox h = refl
@@ -308,23 +309,23 @@ module _ (q : ContainerParser) (c : ℕ) (s : List ℕ) where
   code-apart x l e (E.AuxBoxData t y m) h = refl
   code-apart x l e (E.AuxBoxEnd t) h = refl
 
-  loose-apart : (e : ParseEvent) → Loose (length s) e q c → {f : ParseEvent} {r : ContainerParser} {d : ℕ} → stepOf q (drop c s) ≡ shows f r d
+  loose-apart : (e : ParseEvent) → Loose (length s) e q c → {f : ParseEvent} {r : BoxParser} {d : ℕ} → stepOf q (drop c s) ≡ shows f r d
       → joins e (shifted c f) ≡ false
   loose-apart (E.BitstreamKind k) i h = refl
   loose-apart E.NoMoreAuxBox i h = refl
   loose-apart (E.Codestream x l) (e, inl n) h = absurd (none-of-none q (rw (drop-of-length-le s n) at h))
   loose-apart (E.Codestream x l) (e, inr n) {f} h =
-      let behind : ContainerParser = at S.WaitingBoxHeader (q .jxlp) in
+      let behind : BoxParser = at S.WaitingBoxHeader (q .jxlp) in
       let same : q ≡ behind = ap (λ (d : DetectState). at d (q .jxlp)) n in
-      code-apart x l e f (rw (ap (λ (p : ContainerParser). stepOf p (drop c s)) (sym same) ∙ h) at (far-step (q .jxlp) (drop c s)))
+      code-apart x l e f (rw (ap (λ (p : BoxParser). stepOf p (drop c s)) (sym same) ∙ h) at (far-step (q .jxlp) (drop c s)))
   loose-apart (E.AuxBoxStart t b e) i h = refl
   loose-apart (E.AuxBoxData t x l) (inl n) h = absurd (none-of-none q (rw (drop-of-length-le s n) at h))
   loose-apart (E.AuxBoxData t x l) (inr n) h =
-      let over : ContainerParser = at (S.InAuxBox t (Bytes 0)) (q .jxlp) in
+      let over : BoxParser = at (S.InAuxBox t (Bytes 0)) (q .jxlp) in
       let same : q ≡ over = ap (λ (d : DetectState). at d (q .jxlp)) n in
-      rw (end-step (q .jxlp) t (drop c s) (ap (λ (p : ContainerParser). stepOf p (drop c s)) (sym same) ∙ h))
+      rw (end-step (q .jxlp) t (drop c s) (ap (λ (p : BoxParser). stepOf p (drop c s)) (sym same) ∙ h))
   loose-apart (E.AuxBoxEnd t) i h = refl
 
-pub apart : (p : ContainerParser) (s : List ℕ) {e f : ParseEvent} {q r : ContainerParser} {c d : ℕ} → stepOf p s ≡ shows e q c → stepOf q (drop c s) ≡ shows f r d
+pub apart : (p : BoxParser) (s : List ℕ) {e f : ParseEvent} {q r : BoxParser} {c d : ℕ} → stepOf p s ≡ shows e q c → stepOf q (drop c s) ≡ shows f r d
     → joins e (shifted c f) ≡ false
 apart p s {e} {q = q} {c = c} h k = loose-apart q c s e ((rw h at (sound p s)) .1) k

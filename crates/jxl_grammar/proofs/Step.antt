@@ -13,7 +13,8 @@ use Rattle.jxl_cuts.proofs.Ahead.{ahead-twice}
 use Rattle.jxl_events.proofs.Shifted.{shifted-zero, shifted-shifted}
 use Rattle.jxl_headers.specs.Bytes.{be32, empty}
 use Rattle.jxl_reach.specs.Reach.{less, toEnd}
-use Rattle.jxl_record.specs.Record.{at, refusedIn, isRefused, impossibleIn, impossible}
+use Rattle.jxl_record.specs.Record.{at, refusedIn, isRefused}
+use Rattle.jxl_impossible.specs.Impossible.{impossibleIn, impossible}
 use Rattle.jxl_headers.specs.Types.{jxlc, jxlp, brob, reserved}
 use Rattle.jxl_grammar.specs.Step.{Told, shows, wants, refuses, refuse, ahead, inCode, codePart, codeStep, row, indexStep, innerStep, jxlcStep, jxlpStep, brobStep, boxStep, stateStep, stepOf}
 use Rattle.jxl_events.specs.Event.{shifted}
@@ -24,7 +25,7 @@ use Rattle.jxl_record.specs.declared.JxlpIndexState.{JxlpIndexState}
 use Rattle.jxl_record.specs.declared.JxlpIndexState.the-variants.{Jxlp}
 use Rattle.jxl_record.specs.declared.DetectState.{DetectState}
 use Rattle.jxl_record.specs.declared.DetectState.the-variants as S
-use Rattle.jxl_record.specs.declared.ContainerParser.{ContainerParser}
+use Rattle.jxl_record.specs.declared.BoxParser.{BoxParser}
 use Rattle.jxl_refusals.specs.declared.BoxRefusal.the-variants.{WrongIndex, ImpossibleRecord, ValidationFailed}
 use Rattle.jxl_events.specs.declared.ParseEvent.the-variants as E
 
@@ -160,11 +161,11 @@ refused-possible-in (S.InAuxBox t l) j e = cc
 refused-possible-in (S.InCodestream k l b) j e = cc
 refused-possible-in (S.Refused k r) j e = refl
 
-pub refused-possible : (p : ContainerParser) → isRefused p ≡ true → impossible p ≡ false
+pub refused-possible : (p : BoxParser) → isRefused p ≡ true → impossible p ≡ false
 refused-possible p e = refused-possible-in (p .state) (p .jxlp) e
 
 -- the whole step
-module _ (p : ContainerParser) where
+module _ (p : BoxParser) where
   pub step-empty : isRefused p ≡ false → stepOf p [] ≡ wants p 0
   unfolding stepOf
   step-empty e = rw e

@@ -2,14 +2,14 @@
 use mathlib.Core.Path.{_≡_}
 use mathlib.Core.List.{List}
 use Prim.Native.Nat.{ℕ}
-use Rattle.jxl_record.specs.declared.ContainerParser.{ContainerParser}
+use Rattle.jxl_record.specs.declared.BoxParser.{BoxParser}
 use Rattle.jxl_cuts.proofs.Taking as Any
 use Rattle.jxl_grammar.specs.Parser.{parser}
 use Rattle.jxl_grammar.specs.Feeding.{Seen, take, Takes}
 use Rattle.jxl_grammar.proofs.Lawful.{lawful}
 
-pub takes : (p : ContainerParser) (at : ℕ) (s : List ℕ) → (u : List ℕ) × Takes p at s (take p at s) u
+pub takes : (p : BoxParser) (at : ℕ) (s : List ℕ) → (u : List ℕ) × Takes p at s (take p at s) u
 takes = Any.takes parser lawful
 
-pub take-is : {p : ContainerParser} {at : ℕ} {s u : List ℕ} {r : Seen} → Takes p at s r u → take p at s ≡ r
+pub take-is : {p : BoxParser} {at : ℕ} {s u : List ℕ} {r : Seen} → Takes p at s r u → take p at s ≡ r
 take-is t = Any.take-is parser lawful t

@@ -1,11 +1,10 @@
--- Feeding the container parser, and joining its events: jxl_cuts' feeding and joining, of this machine.
+-- Feeding the rules on boxes: jxl_cuts' feeding, of this machine.
 use mathlib.Core.List.{List}
 use Prim.Native.Nat.{ℕ}
-use Rattle.jxl_record.specs.declared.ContainerParser.{ContainerParser}
+use Rattle.jxl_record.specs.declared.BoxParser.{BoxParser}
 use Rattle.jxl_events.specs.declared.ParseEvent.{ParseEvent}
 use Rattle.jxl_cuts.specs.Feeding as Any
-use Rattle.jxl_cuts.specs.Joined as AnyJoined
-pub use Rattle.jxl_cuts.specs.Feeding.{eventsIn, events, followed, bytesOf, more, waits, ends}
+pub use Rattle.jxl_cuts.specs.Feeding.{events, followed, more, waits, ends}
 use Rattle.jxl_grammar.specs.Grammar.{Stop}
 use Rattle.jxl_grammar.specs.Parser.{parser}
 
@@ -15,26 +14,17 @@ Shown = Any.Shown parser
 abbrev pub Seen : Type 0
 Seen = Any.Seen parser
 
-abbrev pub stops : Stop → ContainerParser → ℕ → Seen
+abbrev pub stops : Stop → BoxParser → ℕ → Seen
 stops = Any.stops parser
 
-abbrev pub placed : ℕ → List ℕ → ParseEvent → Shown
+abbrev pub placed : ℕ → List ℕ → ParseEvent → ℕ → Shown
 placed = Any.placed parser
 
-abbrev pub taking : ℕ → ContainerParser → ℕ → List ℕ → Seen
-taking = Any.taking parser
-
-abbrev pub take : ContainerParser → ℕ → List ℕ → Seen
+abbrev pub take : BoxParser → ℕ → List ℕ → Seen
 take = Any.take parser
 
-abbrev pub Takes : ContainerParser → ℕ → List ℕ → Seen → List ℕ → Type 0
+abbrev pub Takes : BoxParser → ℕ → List ℕ → Seen → List ℕ → Type 0
 Takes = Any.Takes parser
 
-abbrev pub before : ParseEvent → List ParseEvent → List ParseEvent
-before = AnyJoined.before parser
-
-abbrev pub joined : List ParseEvent → List ParseEvent
-joined = AnyJoined.joined parser
-
-abbrev pub feeding : ContainerParser → ℕ → List (List ℕ) → Seen
+abbrev pub feeding : BoxParser → ℕ → List (List ℕ) → Seen
 feeding = Any.feeding parser

@@ -13,7 +13,7 @@ use Rattle.jxl_record.specs.declared.BitstreamKind.{BitstreamKind}
 use Rattle.jxl_record.specs.declared.JxlpIndexState.{JxlpIndexState}
 use Rattle.jxl_refusals.specs.declared.BoxRefusal.{BoxRefusal}
 use Rattle.jxl_record.specs.declared.DetectState.the-variants as S
-use Rattle.jxl_record.specs.declared.ContainerParser.{ContainerParser}
+use Rattle.jxl_record.specs.declared.BoxParser.{BoxParser}
 use Rattle.jxl_events.specs.declared.ParseEvent.{ParseEvent}
 
 -- refused stays: a refused parser answers its very refusal, values too, consumes nothing and is unchanged, also on an empty input
@@ -23,7 +23,7 @@ RefusedStays =
     → numbered (stepOf (at (S.Refused k r) j) s) ≡ refuses (why r) (at (S.Refused k r) j) 0
 
 -- a parser that refuses every input for the rule w, and stays as it is
-abbrev pub Repeats : BoxRefusal → ContainerParser → Type 0
+abbrev pub Repeats : BoxRefusal → BoxParser → Type 0
 Repeats w p = (s : List ℕ) → stepOf p s ≡ refuses w p 0
 
 -- an event whose payload, if it shows one, lies inside n bytes
@@ -38,4 +38,4 @@ Kept n (wants p c) = (c ≤ n) × (n ≤ c + 15)
 Kept n (refuses w p c) = (c ≤ n) × Repeats w p
 
 abbrev pub EveryStep : Type 0
-EveryStep = (p : ContainerParser) (s : List ℕ) → Kept (length s) (stepOf p s)
+EveryStep = (p : BoxParser) (s : List ℕ) → Kept (length s) (stepOf p s)

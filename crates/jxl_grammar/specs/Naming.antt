@@ -5,13 +5,13 @@ use Prim.Native.Nat.{ℕ}
 use Rattle.jxl_cuts.specs.Machine.{Told as Answer, shows, wants, refuses}
 use Rattle.jxl_cuts.specs.Feeding.{Stop as Stops, want, refused}
 use Rattle.jxl_refusals.specs.Refusals.{Why, Naming, why}
-use Rattle.jxl_record.specs.declared.ContainerParser.{ContainerParser}
+use Rattle.jxl_record.specs.declared.BoxParser.{BoxParser}
 use Rattle.jxl_events.specs.declared.ParseEvent.{ParseEvent}
 use Rattle.jxl_grammar.specs.Step.{Told, stepOf}
 use Rattle.jxl_grammar.specs.Grammar.{ListingBy, file}
 
 -- an answer, a stop, a listing, with the refusal called by another name
-abbrev pub toldAs : {A B : Type 0} → (A → B) → Answer ContainerParser ParseEvent A → Answer ContainerParser ParseEvent B
+abbrev pub toldAs : {A B : Type 0} → (A → B) → Answer BoxParser ParseEvent A → Answer BoxParser ParseEvent B
 toldAs name (shows e p n) = shows e p n
 toldAs name (wants p n) = wants p n
 toldAs name (refuses r p n) = refuses (name r) p n
@@ -25,13 +25,13 @@ listingAs name l = record { events = l .events; consumed = l .consumed; stop = s
 
 -- an answer in the paper's words: a refusal by its number and the values that it tells
 abbrev pub Numbered : Type 0
-Numbered = Answer ContainerParser ParseEvent Why
+Numbered = Answer BoxParser ParseEvent Why
 
 abbrev pub numbered : Told → Numbered
 numbered = toldAs why
 
 -- what a step tells, by a naming
-abbrev pub stepBy : Naming → ContainerParser → List ℕ → Numbered
+abbrev pub stepBy : Naming → BoxParser → List ℕ → Numbered
 stepBy name p s = toldAs name (stepOf p s)
 
 -- what a whole file lists, by a naming

@@ -4,16 +4,16 @@ use Prim.Native.Nat.{ℕ}
 use Rattle.jxl_grammar.specs.Step.{Told, stepOf}
 use Rattle.jxl_events.specs.Event.{shifted, payload, lengthOf}
 use Rattle.jxl_refusals.specs.declared.BoxRefusal.{BoxRefusal}
-use Rattle.jxl_record.specs.declared.ContainerParser.{ContainerParser}
+use Rattle.jxl_record.specs.declared.BoxParser.{BoxParser}
 use Rattle.jxl_events.specs.declared.ParseEvent.{ParseEvent}
 use Rattle.jxl_cuts.specs.Machine.{Machine}
-use Rattle.jxl_joiner.specs.Joined.{joins, longer}
+use Rattle.jxl_parts.specs.Joined.{joins, longer}
 
 -- a parser that steps so: at most 15 bytes are left unread; three bytes pay for an event, and a state is lent at most 9
-abbrev pub parserBy : (ContainerParser → List ℕ → Told) → Machine
+abbrev pub parserBy : (BoxParser → List ℕ → Told) → Machine
 parserBy step =
     record {
-      State = ContainerParser;
+      State = BoxParser;
       Event = ParseEvent;
       Why = BoxRefusal;
       step = step;

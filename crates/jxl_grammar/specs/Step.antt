@@ -10,7 +10,8 @@ pub use Rattle.jxl_cuts.specs.Machine.{shows, wants, refuses}
 use Rattle.jxl_headers.specs.Bytes.{if, and, or, be32, empty}
 use Rattle.jxl_signatures.specs.Signature.{signatureOf}
 use Rattle.jxl_reach.specs.Reach.{under, less, toEnd}
-use Rattle.jxl_record.specs.Record.{at, kindOf, impossible, isRefused}
+use Rattle.jxl_record.specs.Record.{at, kindOf, isRefused}
+use Rattle.jxl_impossible.specs.Impossible.{impossible}
 use Rattle.jxl_headers.specs.Header.{Header, short, bad, box, headerOf}
 use Rattle.jxl_headers.specs.Types.{jxlc, jxlp, brob, reserved}
 use Rattle.jxl_signatures.specs.declared.Signature.{Signature}
@@ -23,7 +24,7 @@ use Rattle.jxl_record.specs.declared.JxlpIndexState.{JxlpIndexState}
 use Rattle.jxl_record.specs.declared.JxlpIndexState.the-variants.{Initial, SingleJxlc, Jxlp, JxlpFinished}
 use Rattle.jxl_record.specs.declared.DetectState.{DetectState}
 use Rattle.jxl_record.specs.declared.DetectState.the-variants as S
-use Rattle.jxl_record.specs.declared.ContainerParser.{ContainerParser}
+use Rattle.jxl_record.specs.declared.BoxParser.{BoxParser}
 use Rattle.jxl_refusals.specs.declared.BoxRefusal.{BoxRefusal}
 use Rattle.jxl_refusals.specs.declared.BoxRefusal.the-variants.{SecondJxlc, JxlcAfterJxlp, JxlpTooSmall, JxlpAfterJxlc, JxlpAfterLast, WrongIndex, BrobTooSmall, ImpossibleRecord, ValidationFailed}
 use Rattle.jxl_events.specs.Event.{shifted}
@@ -32,20 +33,20 @@ use Rattle.jxl_events.specs.declared.ParseEvent.the-variants as E
 
 -- one step gives one event, WANT or a refusal by the rule that broke, with the next parser and the bytes consumed
 abbrev pub Told : Type 0
-Told = Answer ContainerParser ParseEvent BoxRefusal
+Told = Answer BoxParser ParseEvent BoxRefusal
 
 -- a refusal leaves the parser refused, and its kind what it was
-abbrev pub refused : BoxRefusal → ContainerParser → ContainerParser
+abbrev pub refused : BoxRefusal → BoxParser → BoxParser
 refused r p = at (S.Refused (kindOf p) r) (p .jxlp)
 
-abbrev pub refuse : BoxRefusal → ContainerParser → ℕ → Told
+abbrev pub refuse : BoxRefusal → BoxParser → ℕ → Told
 refuse r p n = refuses r (refused r p) n
 
 -- what is told of the input behind its first n bytes, said of the whole input
 abbrev pub ahead : ℕ → Told → Told
 ahead = aheadBy shifted
 
-abbrev pub inCode : BitstreamKind → BytesLeft → Bool → JxlpIndexState → ContainerParser
+abbrev pub inCode : BitstreamKind → BytesLeft → Bool → JxlpIndexState → BoxParser
 inCode k l pending j = at (S.InCodestream k l pending) j
 
 -- KIND bare or invalid, nothing consumed; the record then has NO_MORE_AUX to tell, and all bytes as CODESTREAM, the first ones too
@@ -162,7 +163,7 @@ stateStep (S.Refused k r) j s = refuses r (at (S.Refused k r) j) 0
 
 -- an empty input answers WANT before anything else, except in a refused parser; a record that no file leads to is refused
 -- with input there and 0 consumed
-unfoldable pub stepOf : ContainerParser → List ℕ → Told
+unfoldable pub stepOf : BoxParser → List ℕ → Told
 stepOf p s =
     if (and (empty s) (not (isRefused p))) (wants p 0)
     (if (impossible p) (refuse ImpossibleRecord p 0)

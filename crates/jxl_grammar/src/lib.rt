@@ -1,1 +1,1 @@
-// What one step of the parser tells, what a whole file lists, and the theorems on every file and every cut: specs/. No code.
+// The rules on boxes: what one step tells, what a whole file lists, and that a step fed a file lists that: specs/. No code.
