@@ -1,10 +1,11 @@
--- An event moved further on: not at all, twice, and modulo 2^64.
+-- An event further on: not at all, twice, and at its place in the file.
 use mathlib.Core.Path.{_≡_, refl}
-use Prim.Native.Nat.{ℕ, _+_, _%_, _^_, _<_}
+use Prim.Native.Nat.{ℕ, _+_, _-_}
 use native.Mathlib.Nat.{zero-add, add-assoc}
 use native.Mathlib.Omega.{arith}
-use Rattle.jxl_events.specs.Event.{endOf, shifted, moved}
-use Rattle.jxl_events.specs.Theorems.{MovedFits}
+use Rattle.jxl_events.specs.Event.{shifted}
+use Rattle.jxl_events.specs.Total.{carrying, endingAt, EndsAt}
+use Rattle.jxl_events.specs.Theorems.{InFileThere, InFileAnywhere}
 use Rattle.jxl_events.specs.declared.ParseEvent.{ParseEvent}
 use Rattle.jxl_events.specs.declared.ParseEvent.the-variants as E
 
@@ -24,23 +25,29 @@ shifted-shifted n m (E.AuxBoxStart t b e) = refl
 shifted-shifted n m (E.AuxBoxData t a l) = rw (add-assoc n m a)
 shifted-shifted n m (E.AuxBoxEnd t) = refl
 
--- modulo 2^64 changes nothing where the place fits
-small : (x : ℕ) → x < 2 ^ 64 → x % 2 ^ 64 ≡ x
-small x h = omega arith
+-- a payload that ends at the total is where it is in the file
+there : (a n total : ℕ) → a + n ≡ total → total - n ≡ a
+there a n total h = omega arith
 
-pub moved-fits : MovedFits
-moved-fits n (E.BitstreamKind k) h = refl
-moved-fits n E.NoMoreAuxBox h = refl
-moved-fits n (E.Codestream a l) h = rw (small (n + a) h)
-moved-fits n (E.AuxBoxStart t b e) h = refl
-moved-fits n (E.AuxBoxData t a l) h = rw (small (n + a) h)
-moved-fits n (E.AuxBoxEnd t) h = refl
+pub in-file-there : InFileThere
+in-file-there e = go (e .event)
+  where
+    go : (d : ParseEvent) → EndsAt (e .total) d → carrying (endingAt (e .total) d) (e .total) ≡ carrying d (e .total)
+    go (E.BitstreamKind k) h = refl
+    go E.NoMoreAuxBox h = refl
+    go (E.Codestream a n) h = rw (there a n (e .total) h)
+    go (E.AuxBoxStart t b x) h = refl
+    go (E.AuxBoxData t a n) h = rw (there a n (e .total) h)
+    go (E.AuxBoxEnd t) h = refl
 
--- nor where the payload ends in time
-pub moved-near : (n : ℕ) (e : ParseEvent) → endOf (shifted n e) < 2 ^ 64 → moved n e ≡ shifted n e
-moved-near n (E.BitstreamKind k) h = refl
-moved-near n E.NoMoreAuxBox h = refl
-moved-near n (E.Codestream a l) h = moved-fits n (E.Codestream a l) (omega arith)
-moved-near n (E.AuxBoxStart t c e) h = refl
-moved-near n (E.AuxBoxData t a l) h = moved-fits n (E.AuxBoxData t a l) (omega arith)
-moved-near n (E.AuxBoxEnd t) h = refl
+-- and the same from anywhere
+pub in-file-anywhere : InFileAnywhere
+in-file-anywhere n e = go (e .event)
+  where
+    go : (d : ParseEvent) → carrying (endingAt (e .total) (shifted n d)) (e .total) ≡ carrying (endingAt (e .total) d) (e .total)
+    go (E.BitstreamKind k) = refl
+    go E.NoMoreAuxBox = refl
+    go (E.Codestream a l) = refl
+    go (E.AuxBoxStart t b x) = refl
+    go (E.AuxBoxData t a l) = refl
+    go (E.AuxBoxEnd t) = refl

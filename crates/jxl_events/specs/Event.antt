@@ -1,6 +1,6 @@
 -- What a step shows: the payload that an event names, its length, its place and its end, and the event further on.
 use mathlib.Core.List.{List}
-use Prim.Native.Nat.{ℕ, _+_, _%_, _^_}
+use Prim.Native.Nat.{ℕ, _+_}
 use Rattle.jxl_cuts.specs.Machine.{Payload, none, bytes, bytesAt}
 use Rattle.jxl_events.specs.declared.ParseEvent.{ParseEvent}
 use Rattle.jxl_events.specs.declared.ParseEvent.the-variants as E
@@ -57,12 +57,3 @@ shifted n (E.Codestream a l) = E.Codestream (n + a) l
 shifted n (E.AuxBoxStart t b e) = E.AuxBoxStart t b e
 shifted n (E.AuxBoxData t a l) = E.AuxBoxData t (n + a) l
 shifted n (E.AuxBoxEnd t) = E.AuxBoxEnd t
-
--- the same where places are counted modulo 2^64; the two agree where the place fits (`MovedFits`)
-abbrev pub moved : ℕ → ParseEvent → ParseEvent
-moved n (E.BitstreamKind k) = E.BitstreamKind k
-moved n E.NoMoreAuxBox = E.NoMoreAuxBox
-moved n (E.Codestream a l) = E.Codestream ((n + a) % 2 ^ 64) l
-moved n (E.AuxBoxStart t b e) = E.AuxBoxStart t b e
-moved n (E.AuxBoxData t a l) = E.AuxBoxData t ((n + a) % 2 ^ 64) l
-moved n (E.AuxBoxEnd t) = E.AuxBoxEnd t

@@ -1,3 +1,3 @@
 pub mod Event
-pub mod Placing
+pub mod Total
 pub mod Theorems

@@ -1,13 +1,11 @@
-// What a step shows: the parts of the input that events name, and an event's place in the file.
+// What a step shows: the parts of the input that events name, and an event's place in the file by the bytes consumed.
 use jxl_record::BitstreamKind;
-use std::num::wrapping_add_usize;
 ghost use mathlib.Core.Path.{_≡_};
-ghost use Prim.Native.Nat.{_+_, _^_};
-ghost use lib.Dec.{ltb};
+ghost use Prim.Native.Nat.{_-_};
 ghost use Rattle.jxl_events.specs.Event as Spec;
-ghost use Rattle.jxl_events.specs.Placing.{placing};
+ghost use Rattle.jxl_events.specs.Total.{inFile};
 
-// What a step shows. A payload is named by its place and length in the step's input.
+// What a step shows. A payload is named by its place and length: in the step's input, or, behind `in_file` and a joiner, in the file.
 pub enum ParseEvent {
     BitstreamKind(BitstreamKind),
     NoMoreAuxBox,
@@ -30,10 +28,10 @@ pub enum ParseEvent {
     },
 }
 
-// An event with its place in the file, or a payload that would end behind 2^64 - 1.
-pub enum Placed {
-    At(ParseEvent),
-    TooFar,
+// An event of a file, with the bytes consumed when it was given.
+pub struct FileEvent {
+    pub event: ParseEvent,
+    pub total: u64,
 }
 
 // The `len` bytes at `at`; an empty part if they lie outside.
@@ -51,7 +49,8 @@ fn part(s: &[u8], at: usize, len: usize) -> &[u8]
     &s[at..end]
 }
 
-// The part of a step's input that its event shows; an empty part if the event shows none, or if it lies outside.
+// The part of a step's input that its event shows, as the step told it, not behind `in_file`; an empty part if the event shows none, or
+// if it lies outside.
 pub fn payload(s: &[u8], event: ParseEvent) -> &[u8]
     ensures { λ r. ⌜ now r ≡ Spec.payloadOf (now (s .entry)) event ⌝ }
 {
@@ -62,53 +61,40 @@ pub fn payload(s: &[u8], event: ParseEvent) -> &[u8]
     }
 }
 
-// Whether `n` bytes at `a`, counted from `base`, end at 2^64 - 1 or before.
-fn fits(base: usize, a: usize, n: usize) -> bool
-    ensures { λ r. ⌜ r ≡ ltb (base + a + n) (2 ^ 64) ⌝ }
+// The place of a payload of `len` bytes that ends at `total`; 0 if it is longer.
+fn place(total: u64, len: usize) -> usize
+    ensures { λ r. ⌜ r ≡ total - len ⌝ }
 {
-    let room = 0xffff_ffff_ffff_ffff - base;
-    if a <= room { n <= room - a } else { false }
-}
-
-// Whether the payload of `event`, counted from `base`, ends at 2^64 - 1 or before.
-fn near(event: ParseEvent, base: usize) -> bool
-    ensures { λ r. ⌜ r ≡ ltb (Spec.endOf (Spec.shifted base event)) (2 ^ 64) ⌝ }
-{
-    match event {
-        ParseEvent::Codestream { at, len } => return fits(base, at, len),
-        ParseEvent::AuxBoxData { ty: _, at, len } => return fits(base, at, len),
-        _ => return true,
+    if (total as usize) < len {
+        return 0;
     }
+    total as usize - len
 }
 
-// The event with `base` added to its place, modulo 2^64: no test, as a place that fits stays as it is.
-pub fn moved(event: ParseEvent, base: usize) -> ParseEvent
-    ensures { λ r. ⌜ r ≡ Spec.moved base event ⌝ }
-{
-    match event {
-        ParseEvent::Codestream { at, len } => {
-            return ParseEvent::Codestream {
-                at: wrapping_add_usize(base, at),
-                len,
-            };
+impl FileEvent {
+    // The event with its payload's place in the file, where a payload is the last that was consumed: `total` less its length.
+    pub fn in_file(self) -> FileEvent
+        ensures { λ r. ⌜ r ≡ inFile self ⌝ }
+    {
+        let event = self.event;
+        let total = self.total;
+        match event {
+            ParseEvent::Codestream { at: _, len } => FileEvent {
+                event: ParseEvent::Codestream {
+                    at: place(total, len),
+                    len,
+                },
+                total,
+            },
+            ParseEvent::AuxBoxData { ty, at: _, len } => FileEvent {
+                event: ParseEvent::AuxBoxData {
+                    ty,
+                    at: place(total, len),
+                    len,
+                },
+                total,
+            },
+            _ => FileEvent { event, total },
         }
-        ParseEvent::AuxBoxData { ty, at, len } => {
-            return ParseEvent::AuxBoxData {
-                ty,
-                at: wrapping_add_usize(base, at),
-                len,
-            };
-        }
-        _ => return event,
     }
-}
-
-// The event of a step, whose input stands at `base` in the file, with its place in the file.
-pub fn with_place(event: ParseEvent, base: usize) -> Placed
-    ensures { λ r. ⌜ r ≡ placing base event ⌝ }
-{
-    if near(event, base) {
-        return Placed::At(moved(event, base));
-    }
-    Placed::TooFar
 }

@@ -1,2 +1,1 @@
-mod Others
 pub mod Unique

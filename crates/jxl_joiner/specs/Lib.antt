@@ -1,3 +1,2 @@
-pub mod Joined
 pub mod Joiner
 pub mod Theorems

@@ -1,7 +1,7 @@
--- One answer: each promise determines what its function gives; proofs/Unique.antt has a proof of each under the same name in small letters.
+-- One answer: each promise determines what its function gives; proofs/Unique.antt.
 use mathlib.Core.Path.{_≡_}
 use Rattle.jxl_base.specs.OneAnswer.{OneAnswer}
-use Rattle.jxl_events.specs.declared.ParseEvent.{ParseEvent}
+use Rattle.jxl_events.specs.declared.FileEvent.{FileEvent}
 use Rattle.jxl_joiner.specs.Joiner.{adding}
 use Rattle.jxl_joiner.specs.declared.MaybeEvent.the-variants.{None}
 use Rattle.jxl_joiner.specs.declared.Joiner.{Joiner}
@@ -10,7 +10,7 @@ abbrev pub OneNew : Type 0
 OneNew = OneAnswer (λ (r : Joiner). r .held ≡ None)
 
 abbrev pub OneAdd : Type 0
-OneAdd = (j : Joiner) (e : ParseEvent) → OneAnswer (λ r. r ≡ adding (j .held) e)
+OneAdd = (j : Joiner) (e : FileEvent) → OneAnswer (λ r. r ≡ adding (j .held) e)
 
 abbrev pub OneFinish : Type 0
 OneFinish = (j : Joiner) → OneAnswer (λ r. r ≡ j .held)

@@ -1,19 +1,18 @@
 // Joins the parts of a payload that cuts parted.
-use jxl_events::ParseEvent;
+use jxl_events::FileEvent;
+use jxl_parts::joins;
+use jxl_parts::reaching;
 ghost use mathlib.Core.Path.{_≡_};
-ghost use Prim.Native.Nat.{_+_, _^_, _<_};
-ghost use lib.Dec.{eqb};
-ghost use Rattle.jxl_events.specs.Event.{lengthOf};
-ghost use Rattle.jxl_joiner.specs.Joined as Spec;
-ghost use Rattle.jxl_joiner.specs.Joiner.{added, adding, extends};
+ghost use Rattle.jxl_joiner.specs.Joiner.{added, adding, putting};
 
 // An event, or none.
 pub enum MaybeEvent {
     None,
-    Some(ParseEvent),
+    Some(FileEvent),
 }
 
-// Joins payload parts that lie end to end. It takes events with places in the file, one at a time, and holds the newest.
+// Joins payload parts that lie end to end. It takes the parser's events one at a time, gives each its place in the file, and holds
+// the newest.
 pub struct Joiner {
     pub held: MaybeEvent,
 }
@@ -24,100 +23,8 @@ pub struct Added {
     pub next: Joiner,
 }
 
-// Whether `n` bytes at `a` end where `b` is.
-fn ends_at(a: usize, n: usize, b: usize) -> bool
-    ensures { λ r. ⌜ r ≡ eqb (a + n) b ⌝ }
-{
-    if b < a {
-        return false;
-    }
-    b - a == n
-}
-
-// Whether `event` is a part of a codestream that starts behind `n` bytes at `a`.
-fn code_at(a: usize, n: usize, event: ParseEvent) -> bool
-    ensures { λ r. ⌜ r ≡ Spec.codeAt (a + n) event ⌝ }
-{
-    match event {
-        ParseEvent::Codestream { at, len: _ } => ends_at(a, n, at),
-        _ => false,
-    }
-}
-
-// Whether `event` is a part of a side box of type `t` that starts behind `n` bytes at `a`.
-fn aux_at(t: u32, a: usize, n: usize, event: ParseEvent) -> bool
-    ensures { λ r. ⌜ r ≡ Spec.auxAt t (a + n) event ⌝ }
-{
-    match event {
-        ParseEvent::AuxBoxData { ty, at, len: _ } => {
-            if t == ty { ends_at(a, n, at) } else { false }
-        }
-        _ => false,
-    }
-}
-
-// Whether the two are parts of one payload, the second where the first ends.
-fn joins(first: ParseEvent, second: ParseEvent) -> bool
-    ensures { λ r. ⌜ r ≡ Spec.joins first second ⌝ }
-{
-    match first {
-        ParseEvent::Codestream { at, len } => code_at(at, len, second),
-        ParseEvent::AuxBoxData { ty, at, len } => aux_at(ty, at, len, second),
-        _ => false,
-    }
-}
-
-// How many payload bytes the event shows.
-fn length_of(event: ParseEvent) -> usize
-    ensures { λ r. ⌜ r ≡ lengthOf event ⌝ }
-{
-    match event {
-        ParseEvent::Codestream { at: _, len } => len,
-        ParseEvent::AuxBoxData { ty: _, at: _, len } => len,
-        _ => 0,
-    }
-}
-
-// A part with `m` bytes more.
-fn longer(m: usize, event: ParseEvent) -> ParseEvent
-    requires { ⌜ lengthOf event + m < 2 ^ 64 ⌝ }
-    ensures { λ r. ⌜ r ≡ Spec.longer m event ⌝ }
-{
-    match event {
-        ParseEvent::Codestream { at, len } => ParseEvent::Codestream { at, len: len + m },
-        ParseEvent::AuxBoxData { ty, at, len } => ParseEvent::AuxBoxData {
-            ty,
-            at,
-            len: len + m,
-        },
-        ParseEvent::BitstreamKind(k) => ParseEvent::BitstreamKind(k),
-        ParseEvent::NoMoreAuxBox => ParseEvent::NoMoreAuxBox,
-        ParseEvent::AuxBoxStart {
-            ty,
-            brotli_compressed: brotli,
-            last_box: to_end,
-        } => ParseEvent::AuxBoxStart {
-            ty,
-            brotli_compressed: brotli,
-            last_box: to_end,
-        },
-        ParseEvent::AuxBoxEnd { ty } => ParseEvent::AuxBoxEnd { ty },
-    }
-}
-
-// Whether the two are one part, whose length fits.
-fn extends(first: ParseEvent, second: ParseEvent) -> bool
-    ensures { λ r. ⌜ r ≡ extends first second ⌝ }
-{
-    if joins(first, second) {
-        length_of(second) <= 0xffff_ffff_ffff_ffff - length_of(first)
-    } else {
-        false
-    }
-}
-
 // What is handed back, and the event held from then on.
-fn holding(out: MaybeEvent, event: ParseEvent) -> Added
+fn holding(out: MaybeEvent, event: FileEvent) -> Added
     ensures { λ r. ⌜ r ≡ added out (MaybeEvent.Some event) ⌝ }
 {
     Added {
@@ -128,12 +35,19 @@ fn holding(out: MaybeEvent, event: ParseEvent) -> Added
     }
 }
 
-// What adding `event` behind `held` does.
-fn put(held: ParseEvent, event: ParseEvent) -> Added
-    ensures { λ r. ⌜ r ≡ adding (MaybeEvent.Some held) event ⌝ }
+// What adding `event` behind `held` does, each with its place in the file. Joined parts carry the last one's total.
+fn put(held: FileEvent, event: FileEvent) -> Added
+    ensures { λ r. ⌜ r ≡ putting held event ⌝ }
 {
-    if extends(held, event) {
-        return holding(MaybeEvent::None, longer(length_of(event), held));
+    let first = held.event;
+    let second = event.event;
+    let total = event.total;
+    if joins(first, second) {
+        let whole = FileEvent {
+            event: reaching(total, first),
+            total,
+        };
+        return holding(MaybeEvent::None, whole);
     }
     holding(MaybeEvent::Some(held), event)
 }
@@ -148,14 +62,15 @@ impl Joiner {
         }
     }
 
-    // Adds an event; hands back the one held, if it is now known to be whole or if the joined length would not fit.
-    pub fn add(self, event: ParseEvent) -> Added
+    // Adds an event; hands back the one held, if it is now known to be whole.
+    pub fn add(self, event: FileEvent) -> Added
         ensures { λ r. ⌜ r ≡ adding (self .held) event ⌝ }
     {
         let held = self.held;
+        let placed = event.in_file();
         match held {
-            MaybeEvent::None => return holding(MaybeEvent::None, event),
-            MaybeEvent::Some(first) => return put(first, event),
+            MaybeEvent::None => return holding(MaybeEvent::None, placed),
+            MaybeEvent::Some(first) => return put(first, placed),
         }
     }
 

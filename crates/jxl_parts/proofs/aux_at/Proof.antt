@@ -1,8 +1,8 @@
 use borrow.Author.Tests.{eq-eqb, ne-eqb}
 use borrow.Author.Needs.{needs}
-use Rattle.jxl_joiner.proofs.Others.{no-aux}
-use Rattle.jxl_joiner.proofs.aux_at.Statement.{statement}
-use Rattle.jxl_joiner.proofs.aux_at.Tie as tie
+use Rattle.jxl_parts.proofs.Others.{no-aux}
+use Rattle.jxl_parts.proofs.aux_at.Statement.{statement}
+use Rattle.jxl_parts.proofs.aux_at.Tie as tie
 
 enum-known-event : tie.Need-enum-known-event
 enum-known-event c = search needs

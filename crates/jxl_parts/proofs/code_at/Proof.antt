@@ -1,7 +1,7 @@
 use borrow.Author.Needs.{needs}
-use Rattle.jxl_joiner.proofs.Others.{no-code}
-use Rattle.jxl_joiner.proofs.code_at.Statement.{statement}
-use Rattle.jxl_joiner.proofs.code_at.Tie as tie
+use Rattle.jxl_parts.proofs.Others.{no-code}
+use Rattle.jxl_parts.proofs.code_at.Statement.{statement}
+use Rattle.jxl_parts.proofs.code_at.Tie as tie
 
 enum-known-event : tie.Need-enum-known-event
 enum-known-event c = search needs

@@ -1,6 +1,6 @@
--- Payload parts that lie end to end: when two events are such parts, and the two in one.
+-- Payload parts that lie end to end: when two events are such parts, the two in one, and a part up to a total.
 use mathlib.Core.Bool.{Bool, false}
-use Prim.Native.Nat.{ℕ, _+_}
+use Prim.Native.Nat.{ℕ, _+_, _-_}
 use lib.Dec.{eqb}
 use Rattle.jxl_headers.specs.Bytes.{and}
 use Rattle.jxl_events.specs.declared.ParseEvent.{ParseEvent}
@@ -41,3 +41,12 @@ longer m (E.Codestream a n) = E.Codestream a (n + m)
 longer m (E.AuxBoxStart t c e) = E.AuxBoxStart t c e
 longer m (E.AuxBoxData t a n) = E.AuxBoxData t a (n + m)
 longer m (E.AuxBoxEnd t) = E.AuxBoxEnd t
+
+-- the part from its place up to `total`; empty if that lies before it
+abbrev pub reaching : ℕ → ParseEvent → ParseEvent
+reaching total (E.BitstreamKind k) = E.BitstreamKind k
+reaching total E.NoMoreAuxBox = E.NoMoreAuxBox
+reaching total (E.Codestream a n) = E.Codestream a (total - a)
+reaching total (E.AuxBoxStart t c e) = E.AuxBoxStart t c e
+reaching total (E.AuxBoxData t a n) = E.AuxBoxData t a (total - a)
+reaching total (E.AuxBoxEnd t) = E.AuxBoxEnd t

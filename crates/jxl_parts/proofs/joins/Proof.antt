@@ -1,7 +1,7 @@
 use borrow.Author.Needs.{needs}
-use Rattle.jxl_joiner.proofs.Others.{no-payload}
-use Rattle.jxl_joiner.proofs.joins.Statement.{statement}
-use Rattle.jxl_joiner.proofs.joins.Tie as tie
+use Rattle.jxl_parts.proofs.Others.{no-payload}
+use Rattle.jxl_parts.proofs.joins.Statement.{statement}
+use Rattle.jxl_parts.proofs.joins.Tie as tie
 
 enum-known-first : tie.Need-enum-known-first
 enum-known-first c = search needs

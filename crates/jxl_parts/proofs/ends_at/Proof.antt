@@ -1,6 +1,6 @@
 use Rattle.jxl_base.proofs.Room.{ends-below, ends-there}
-use Rattle.jxl_joiner.proofs.ends_at.Statement.{statement}
-use Rattle.jxl_joiner.proofs.ends_at.Tie as tie
+use Rattle.jxl_parts.proofs.ends_at.Statement.{statement}
+use Rattle.jxl_parts.proofs.ends_at.Tie as tie
 
 returns : tie.Need-returns
 returns c = ends-below _ _ _ (c .if1 .taken)
