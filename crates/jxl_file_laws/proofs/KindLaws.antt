@@ -11,7 +11,9 @@ use borrow.Author.Tests.{ltb-true, ltb-false, eqb-true, eqb-false}
 use Rattle.jxl_headers.specs.Bytes.{if, be32}
 use Rattle.jxl_refusals.specs.declared.BoxRefusal.{BoxRefusal}
 use Rattle.jxl_reach.specs.Reach.{under, less, toEnd}
-use Rattle.jxl_record.specs.Record.{at, kindIn, kindOf, fresh, impossible, isRefused}
+use Rattle.jxl_record.specs.Record.{at, kindIn, kindOf, isRefused}
+use Rattle.jxl_impossible.specs.Impossible.{impossible}
+use Rattle.jxl_record.specs.Record as Record
 use Rattle.jxl_headers.specs.Header.{Header, short, bad, box, headerOf}
 use Rattle.jxl_signatures.specs.Signature.{signatureOf}
 use Rattle.jxl_headers.specs.Types.{jxlc, jxlp, brob, reserved}
@@ -28,15 +30,26 @@ use Rattle.jxl_record.specs.declared.JxlpIndexState.{JxlpIndexState}
 use Rattle.jxl_record.specs.declared.JxlpIndexState.the-variants.{Initial, SingleJxlc, Jxlp, JxlpFinished}
 use Rattle.jxl_record.specs.declared.DetectState.{DetectState}
 use Rattle.jxl_record.specs.declared.DetectState.the-variants as S
-use Rattle.jxl_record.specs.declared.ContainerParser.{ContainerParser}
+use Rattle.jxl_record.specs.declared.BoxParser.{BoxParser}
 use Rattle.jxl_events.specs.declared.ParseEvent.{ParseEvent}
 use Rattle.jxl_events.specs.declared.ParseEvent.the-variants as E
-use Rattle.jxl_joiner.specs.Joined.{codeAt, auxAt}
-use Rattle.jxl_grammar.specs.Feeding.{before, joined, Seen, events, feeding, bytesOf, Takes, more, waits, ends}
+use Rattle.jxl_parts.specs.Joined.{codeAt, auxAt, longer}
+use Rattle.jxl_events.specs.Event.{shifted, lengthOf}
+use Rattle.jxl_grammar.specs.Grammar.{Listing}
+use Rattle.jxl_events.specs.Total.{withoutTotals}
+use Rattle.jxl_events.specs.declared.FileEvent.{FileEvent}
+use Rattle.jxl_parts.specs.Joined.{joins}
+use Rattle.jxl_totals.specs.Step.{visible, fresh}
+use Rattle.jxl_totals.specs.Step as Counted
+use Rattle.jxl_totals.specs.Feeding.{before, joined, Seen, events, feeding, bytesOf, Takes, more, waits, ends}
+use Rattle.jxl_totals.specs.declared.ContainerParser.{ContainerParser}
+use Rattle.jxl_totals.specs.declared.FileRefusal.{FileRefusal}
+use Rattle.jxl_totals.proofs.Counting.{shown-by}
+use Rattle.jxl_files.proofs.Listed.{Refusing, byRule, byLimit, wanted-by, refusing-by}
 use Rattle.jxl_file_laws.specs.Theorems.{kindTold, KindIsTold, KindOfAFile, RefusalKeepsKind}
 use Rattle.jxl_base.proofs.Never.{never}
-use Rattle.jxl_grammar.proofs.Taking.{takes}
-use Rattle.jxl_grammar.proofs.Theorems.{whole-feed, every-cut, every-cut-of-a-file}
+use Rattle.jxl_totals.proofs.Taking.{takes}
+use Rattle.jxl_files.proofs.Theorems.{whole-feed, every-cut, cut-file}
 
 -- only a container's codestream payload ends
 abbrev MayEnd : BitstreamKind → BytesLeft → Type 0
@@ -63,7 +76,7 @@ kind-is (S.Refused x r) e = e
 kind-is S.WaitingSignature e = absurd e
 
 -- the record that a step leaves
-abbrev left : Told → ContainerParser
+abbrev left : Told → BoxParser
 left (shows e q c) = q
 left (wants q c) = q
 left (refuses r q c) = q
@@ -77,7 +90,7 @@ left-ahead n (wants q c) = refl
 left-ahead n (refuses r q c) = refl
 
 stays-ahead : (n : ℕ) (t : Told) → Stays K.Container t → Stays K.Container (ahead n t)
-stays-ahead n t i = subst (λ (q : ContainerParser). Of K.Container (q .state)) (left-ahead n t) i
+stays-ahead n t i = subst (λ (q : BoxParser). Of K.Container (q .state)) (left-ahead n t) i
 
 stays-part : (j : JxlpIndexState) (k : BitstreamKind) (l : BytesLeft) (n : ℕ) → MayEnd k l → Stays k (codePart j k l n)
 stays-part j k ToEnd n f = (refl, tt)
@@ -169,7 +182,7 @@ stays-state k (S.InCodestream x l pending) j s (e, f) =
 stays-state k (S.Refused x r) j s e = e
 
 -- every record behind the signature, every input
-kind-stays : (k : BitstreamKind) (p : ContainerParser) (s : List ℕ) → Of k (p .state) → Stays k (stepOf p s)
+kind-stays : (k : BitstreamKind) (p : BoxParser) (s : List ℕ) → Of k (p .state) → Stays k (stepOf p s)
 kind-stays k p s o = go s (isRefused p) refl (impossible p) refl
   where
     go : (s : List ℕ) (t : Bool) → isRefused p ≡ t → (u : Bool) → impossible p ≡ u → Stays k (stepOf p s)
@@ -178,10 +191,19 @@ kind-stays k p s o = go s (isRefused p) refl (impossible p) refl
     go (x ∷ s) t r true i = rw (step-impossible p (x ∷ s) (omega arith) i) (kind-is (p .state) o)
     go (x ∷ s) t r false i = rw (step-state p (x ∷ s) (omega arith) i) (stays-state k (p .state) (p .jxlp) (x ∷ s) o)
 
-taken-stays : (k : BitstreamKind) {p : ContainerParser} {at : ℕ} {s u : List ℕ} {r : Seen} → Takes p at s r u → Of k (p .state) → Of k (r .next .state)
-taken-stays k {p} {s = s} (more e t) o = taken-stays k t (rw e at (kind-stays k p s o))
-taken-stays k {p} {s = s} (waits e) o = rw e at (kind-stays k p s o)
-taken-stays k {p} {s = s} (ends e) o = rw e at (kind-stays k p s o)
+-- the record that is left where a step refuses, the limit's refusal too
+module _ {k : BitstreamKind} {p : ContainerParser} {s : List ℕ} {w : FileRefusal} {q : ContainerParser} {c : ℕ} where
+  refused-stays : ((t : Told) → stepOf (p .boxes) (visible p s) ≡ t → Stays k t) → Refusing p s w q c → Of k (q .boxes .state)
+  refused-stays all (byRule {o = o} st next why) =
+      subst (λ (x : ContainerParser). Of k (x .boxes .state)) (sym next) (all (refuses (w .rule) o c) st)
+  refused-stays all (byLimit {o = o} st e next why) =
+      subst (λ (x : ContainerParser). Of k (x .boxes .state)) (sym next) (kind-is (o .state) (all (wants o c) st))
+
+taken-stays : (k : BitstreamKind) {p : ContainerParser} {at : ℕ} {s u : List ℕ} {r : Seen} → Takes p at s r u → Of k (p .boxes .state) → Of k (r .next .boxes .state)
+taken-stays k {p} {s = s} (more e t) o = taken-stays k t (rw (shown-by p s e .0) at (kind-stays k (p .boxes) (visible p s) o))
+taken-stays k {p} {s = s} (waits e) o = rw (wanted-by p s e .0) at (kind-stays k (p .boxes) (visible p s) o)
+taken-stays k {p} {s = s} (ends e) o =
+    refused-stays (λ t st. subst (Stays k) st (kind-stays k (p .boxes) (visible p s) o)) (refusing-by p s e)
 
 -- the signature shows KIND, or waits
 abbrev Begins : Told → Type 0
@@ -195,17 +217,25 @@ begins-signature j G.Container = (K.Container, refl, refl)
 begins-signature j G.TooShort = refl
 begins-signature j G.Neither = (K.Invalid, refl, (refl, tt))
 
-begins : (s : List ℕ) → Begins (stepOf fresh s)
-begins [] = rw (step-empty fresh refl) refl
-begins (x ∷ s) = rw (step-state fresh (x ∷ s) (omega arith) refl) (begins-signature Initial (signatureOf (x ∷ s)))
+begins : (s : List ℕ) → Begins (stepOf Record.fresh s)
+begins [] = rw (step-empty Record.fresh refl) refl
+begins (x ∷ s) = rw (step-state Record.fresh (x ∷ s) (omega arith) refl) (begins-signature Initial (signatureOf (x ∷ s)))
 
 -- of one feed
-fresh-kind : {a : ℕ} {s u : List ℕ} {r : Seen} → Takes fresh a s r u → kindOf (r .next) ≡ kindTold (events r)
-fresh-kind {s = s} (more {r = r} k t) =
-    let first = rw k at (begins s) in
-    kind-is (r .next .state) (taken-stays (first .0) t (first .2)) ∙ rw (first .1)
-fresh-kind {s = s} (waits k) = rw k at (begins s)
-fresh-kind {s = s} (ends k) = rw k at (begins s)
+fresh-kind : {a : ℕ} {s u : List ℕ} {r : Seen} → Takes fresh a s r u → Counted.kindOf (r .next) ≡ kindTold (withoutTotals (events r))
+fresh-kind {a} {s = s} (more {e = e} {r = r} k t) =
+    let by = shown-by fresh s k .0 in
+    let first = rw by at (begins (visible fresh s)) in
+    kind-is (r .next .boxes .state) (taken-stays (first .0) t (first .2)) ∙ told (e .event) (first .0) (first .1) (withoutTotals (events r))
+  where
+    told : (d : ParseEvent) (k : BitstreamKind) → d ≡ E.BitstreamKind k → (es : List ParseEvent) → k ≡ kindTold (shifted a d ∷ es)
+    told d k h es = rw h
+fresh-kind {s = s} (waits k) = rw (wanted-by fresh s k .0) at (begins (visible fresh s))
+fresh-kind {s = s} (ends {q = q} {c = c} {w = w} k) = go (refusing-by fresh s k)
+  where
+    go : Refusing fresh s w q c → Counted.kindOf q ≡ K.Unknown
+    go (byRule st next why) = ap Counted.kindOf next ∙ (rw st at (begins (visible fresh s)))
+    go (byLimit st e next why) = ap Counted.kindOf next ∙ (rw st at (begins (visible fresh s)))
 
 -- joining leaves the first KIND
 code-quiet : (x : ℕ) (f : ParseEvent) (es : List ParseEvent) → codeAt x f ≡ true → kindTold es ≡ kindTold (f ∷ es)
@@ -224,22 +254,21 @@ aux-quiet u x (E.AuxBoxStart t b e) es j = refl
 aux-quiet u x (E.AuxBoxData t a n) es j = refl
 aux-quiet u x (E.AuxBoxEnd t) es j = refl
 
-before-kind : (e : ParseEvent) (es : List ParseEvent) → kindTold (before e es) ≡ kindTold (e ∷ es)
+longer-quiet : (d f : ParseEvent) (es : List ParseEvent) (m : ℕ) → joins d f ≡ true → kindTold (longer m d ∷ es) ≡ kindTold (d ∷ f ∷ es)
+longer-quiet (E.BitstreamKind k) f es m j = never j
+longer-quiet E.NoMoreAuxBox f es m j = never j
+longer-quiet (E.Codestream a n) f es m j = code-quiet (a + n) f es j
+longer-quiet (E.AuxBoxStart t b e) f es m j = never j
+longer-quiet (E.AuxBoxData t a n) f es m j = aux-quiet t (a + n) f es j
+longer-quiet (E.AuxBoxEnd t) f es m j = never j
+
+before-kind : (e : FileEvent) (es : List FileEvent) → kindTold (withoutTotals (before e es)) ≡ kindTold (e .event ∷ withoutTotals es)
 before-kind e [] = refl
-before-kind (E.BitstreamKind k) (f ∷ es) = refl
-before-kind E.NoMoreAuxBox (f ∷ es) = refl
-before-kind (E.Codestream a n) (f ∷ es) = go (codeAt (a + n) f) refl
+before-kind e (f ∷ es) = go (joins (e .event) (f .event)) refl
   where
-    go : (t : Bool) → codeAt (a + n) f ≡ t → kindTold (before (E.Codestream a n) (f ∷ es)) ≡ kindTold (f ∷ es)
-    go true j = rw j (code-quiet (a + n) f es j)
+    go : (t : Bool) → joins (e .event) (f .event) ≡ t → kindTold (withoutTotals (before e (f ∷ es))) ≡ kindTold (e .event ∷ f .event ∷ withoutTotals es)
+    go true j = rw j (longer-quiet (e .event) (f .event) (withoutTotals es) (lengthOf (f .event)) j)
     go false j = rw j
-before-kind (E.AuxBoxStart t b e) (f ∷ es) = refl
-before-kind (E.AuxBoxData u a n) (f ∷ es) = go (auxAt u (a + n) f) refl
-  where
-    go : (t : Bool) → auxAt u (a + n) f ≡ t → kindTold (before (E.AuxBoxData u a n) (f ∷ es)) ≡ kindTold (f ∷ es)
-    go true j = rw j (aux-quiet u (a + n) f es j)
-    go false j = rw j
-before-kind (E.AuxBoxEnd t) (f ∷ es) = refl
 
 behind : (e : ParseEvent) (es fs : List ParseEvent) → kindTold es ≡ kindTold fs → kindTold (e ∷ es) ≡ kindTold (e ∷ fs)
 behind (E.BitstreamKind k) es fs h = refl
@@ -249,20 +278,20 @@ behind (E.AuxBoxStart t b e) es fs h = h
 behind (E.AuxBoxData t a n) es fs h = h
 behind (E.AuxBoxEnd t) es fs h = h
 
-joined-kind : (es : List ParseEvent) → kindTold (joined es) ≡ kindTold es
+joined-kind : (es : List FileEvent) → kindTold (withoutTotals (joined es)) ≡ kindTold (withoutTotals es)
 joined-kind [] = refl
-joined-kind (e ∷ es) = before-kind e (joined es) ∙ behind e (joined es) es (joined-kind es)
+joined-kind (e ∷ es) = before-kind e (joined es) ∙ behind (e .event) (withoutTotals (joined es)) (withoutTotals es) (joined-kind es)
 
 pub kind-is-told : KindIsTold
 kind-is-told xs =
-    let cut = every-cut fresh 0 xs refl in
-    let all = whole-feed fresh 0 (bytesOf xs) in
-    ap kindOf (cut .next-is ∙ ap (λ (r : Seen). r .next) all) ∙ fresh-kind (takes fresh 0 (bytesOf xs) .1)
-    ∙ ap kindTold (sym (cut .events-are ∙ ap events all)) ∙ joined-kind (events (feeding fresh 0 xs))
+    let cut = every-cut fresh xs refl in
+    let all = whole-feed fresh (bytesOf xs) in
+    ap Counted.kindOf (cut .next-is ∙ ap (λ (r : Seen). r .next) all) ∙ fresh-kind (takes fresh 0 (bytesOf xs) .1)
+    ∙ ap (λ (es : List FileEvent). kindTold (withoutTotals es)) (sym (cut .events-are ∙ ap events all)) ∙ joined-kind (events (feeding fresh xs))
 
 pub kind-of-a-file : KindOfAFile
 kind-of-a-file xs =
-    kind-is-told xs ∙ sym (joined-kind (events (feeding fresh 0 xs))) ∙ ap kindTold (every-cut-of-a-file xs .0)
+    kind-is-told xs ∙ sym (joined-kind (events (feeding fresh xs))) ∙ ap (λ (l : Listing). kindTold (l .events)) (cut-file xs)
 
 -- no codestream refuses
 abbrev Calm : Told → Type 0
@@ -290,7 +319,7 @@ calm-signature j G.TooShort = tt
 calm-signature j G.Neither = tt
 
 -- a state that is not calm has a kind that stays
-refusal-in : (d : DetectState) (j : JxlpIndexState) (s : List ℕ) {w : BoxRefusal} {q : ContainerParser} {c : ℕ} → stateStep d j s ≡ refuses w q c → kindOf q ≡ kindIn d
+refusal-in : (d : DetectState) (j : JxlpIndexState) (s : List ℕ) {w : BoxRefusal} {q : BoxParser} {c : ℕ} → stateStep d j s ≡ refuses w q c → kindOf q ≡ kindIn d
 refusal-in S.WaitingSignature j s e = absurd (rw e at (calm-signature j (signatureOf s)))
 refusal-in S.WaitingBoxHeader j s {q = q} e = kind-is (q .state) (rw e at (stays-state K.Container S.WaitingBoxHeader j s refl))
 refusal-in (S.WaitingJxlpIndex l) j s {q = q} e = kind-is (q .state) (rw e at (stays-state K.Container (S.WaitingJxlpIndex l) j s refl))
@@ -299,11 +328,60 @@ refusal-in (S.InAuxBox t l) j s {q = q} e = kind-is (q .state) (rw e at (stays-s
 refusal-in (S.InCodestream k l pending) j s e = absurd (rw e at (calm-code j k l pending s))
 refusal-in (S.Refused k r) j s e = ap (λ (t : Told). kindOf (left t)) (sym e)
 
-pub refusal-keeps-kind : RefusalKeepsKind
-refusal-keeps-kind p s n q c e = go s e (isRefused p) refl (impossible p) refl
+-- where more is wanted the kind stays as well
+abbrev Waits : BitstreamKind → Told → Type 0
+Waits k (shows e q c) = Unit {0}
+Waits k (wants q c) = kindOf q ≡ k
+Waits k (refuses r q c) = Unit {0}
+
+waits-calm : (k : BitstreamKind) (j : JxlpIndexState) (l : BytesLeft) (pending : Bool) (s : List ℕ) → Waits k (codeStep j k l pending s)
+waits-calm k j l pending [] = rw (code-wants j k l [] pending (omega arith))
+waits-calm k j l true (x ∷ s) = rw (code-pending j k l (x ∷ s) (omega arith)) tt
+waits-calm k j l false (x ∷ s) = rw (code-shows j k l (x ∷ s) (omega arith)) (go l)
   where
-    go : (s : List ℕ) → stepOf p s ≡ refuses n q c → (t : Bool) → isRefused p ≡ t → (u : Bool) → impossible p ≡ u → kindOf q ≡ kindOf p
-    go [] e true r u i = ap (λ (t : Told). kindOf (left t)) (sym e ∙ stays p r .1 [])
-    go [] e false r u i = never (cc (step-empty p r))
-    go (x ∷ s) e t r true i = ap (λ (t : Told). kindOf (left t)) (sym e ∙ step-impossible p (x ∷ s) (omega arith) i)
-    go (x ∷ s) e t r false i = refusal-in (p .state) (p .jxlp) (x ∷ s) (sym (step-state p (x ∷ s) (omega arith) i) ∙ e)
+    part : (t : Bool) (m : ℕ) → Waits k (if t (shows (E.Codestream 0 m) (at S.WaitingBoxHeader j) m) (shows (E.Codestream 0 (length (x ∷ s))) (inCode k (Bytes (m - length (x ∷ s))) false j) (length (x ∷ s))))
+    part true m = tt
+    part false m = tt
+
+    go : (l : BytesLeft) → Waits k (codePart j k l (length (x ∷ s)))
+    go ToEnd = tt
+    go (Bytes m) = part (leb m (length (x ∷ s))) m
+
+waits-signature : (j : JxlpIndexState) (g : Signature) → Waits K.Unknown (signatureStep j g)
+waits-signature j G.Bare = tt
+waits-signature j G.Container = tt
+waits-signature j G.TooShort = refl
+waits-signature j G.Neither = tt
+
+wanting-in : (d : DetectState) (j : JxlpIndexState) (s : List ℕ) {q : BoxParser} {c : ℕ} → stateStep d j s ≡ wants q c → kindOf q ≡ kindIn d
+wanting-in S.WaitingSignature j s e = rw e at (waits-signature j (signatureOf s))
+wanting-in S.WaitingBoxHeader j s {q = q} e = kind-is (q .state) (rw e at (stays-state K.Container S.WaitingBoxHeader j s refl))
+wanting-in (S.WaitingJxlpIndex l) j s {q = q} e = kind-is (q .state) (rw e at (stays-state K.Container (S.WaitingJxlpIndex l) j s refl))
+wanting-in (S.WaitingInnerType l) j s {q = q} e = kind-is (q .state) (rw e at (stays-state K.Container (S.WaitingInnerType l) j s refl))
+wanting-in (S.InAuxBox t l) j s {q = q} e = kind-is (q .state) (rw e at (stays-state K.Container (S.InAuxBox t l) j s refl))
+wanting-in (S.InCodestream k l pending) j s e = rw e at (waits-calm k j l pending s)
+wanting-in (S.Refused k r) j s e = never cc
+
+-- the rules, by what they leave
+rules-keep : (p : BoxParser) (s : List ℕ) (q : BoxParser) → ((w : BoxRefusal) (c : ℕ) → stepOf p s ≡ refuses w q c → kindOf q ≡ kindOf p)
+    × ((c : ℕ) → stepOf p s ≡ wants q c → kindOf q ≡ kindOf p)
+rules-keep p s q = ((λ w c e. refusing s w c e (isRefused p) refl (impossible p) refl), (λ c e. wanting s c e (isRefused p) refl (impossible p) refl))
+  where
+    refusing : (s : List ℕ) (w : BoxRefusal) (c : ℕ) → stepOf p s ≡ refuses w q c → (t : Bool) → isRefused p ≡ t → (u : Bool) → impossible p ≡ u → kindOf q ≡ kindOf p
+    refusing [] w c e true r u i = ap (λ (t : Told). kindOf (left t)) (sym e ∙ stays p r .1 [])
+    refusing [] w c e false r u i = never (cc (step-empty p r))
+    refusing (x ∷ s) w c e t r true i = ap (λ (t : Told). kindOf (left t)) (sym e ∙ step-impossible p (x ∷ s) (omega arith) i)
+    refusing (x ∷ s) w c e t r false i = refusal-in (p .state) (p .jxlp) (x ∷ s) (sym (step-state p (x ∷ s) (omega arith) i) ∙ e)
+
+    wanting : (s : List ℕ) (c : ℕ) → stepOf p s ≡ wants q c → (t : Bool) → isRefused p ≡ t → (u : Bool) → impossible p ≡ u → kindOf q ≡ kindOf p
+    wanting [] c e true r u i = never (cc (stays p r .1 []))
+    wanting [] c e false r u i = ap (λ (t : Told). kindOf (left t)) (sym e ∙ step-empty p r)
+    wanting (x ∷ s) c e t r true i = never (cc (step-impossible p (x ∷ s) (omega arith) i))
+    wanting (x ∷ s) c e t r false i = wanting-in (p .state) (p .jxlp) (x ∷ s) (sym (step-state p (x ∷ s) (omega arith) i) ∙ e)
+
+pub refusal-keeps-kind : RefusalKeepsKind
+refusal-keeps-kind p s w q c e = go (refusing-by p s e)
+  where
+    go : Refusing p s w q c → Counted.kindOf q ≡ Counted.kindOf p
+    go (byRule {o = o} st next why) = ap Counted.kindOf next ∙ rules-keep (p .boxes) (visible p s) o .0 (w .rule) c st
+    go (byLimit {o = o} st lies next why) = ap Counted.kindOf next ∙ rules-keep (p .boxes) (visible p s) o .1 c st

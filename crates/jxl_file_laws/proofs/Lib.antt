@@ -1,3 +1,2 @@
 pub mod Joining
-pub mod Payloads
 pub mod KindLaws

@@ -1,0 +1,4 @@
+pub mod Counts
+pub mod Limit
+pub mod Listed
+pub mod Theorems

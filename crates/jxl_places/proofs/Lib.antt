@@ -1,0 +1,3 @@
+pub mod OnePlace
+pub mod Places
+pub mod Stands
