@@ -36,11 +36,11 @@ use denote.Triple.Statement.{Contract, Triple}
 use denote.Triple.Call.{calls-at}
 use denote.Triple.Clauses.{ensured, lasts}
 use denote.Triple.Spec.{tripleOf}
-use Rattle.jxl_record.specs.declared.ContainerParser.{ContainerParser}
-use Rattle.jxl_record.proofs.ContainerParser as P
-use Rattle.jxl_record.proofs.ContainerParser.Laws as P′
-use Rattle.jxl_grammar.specs.Step.{stepOf}
-use Rattle.jxl_grammar.specs.Naming.{numbered}
+use Rattle.jxl_totals.specs.declared.ContainerParser.{ContainerParser}
+use Rattle.jxl_totals.proofs.ContainerParser as P
+use Rattle.jxl_totals.proofs.ContainerParser.Laws as P′
+use Rattle.jxl_totals.specs.Step.{stepOf}
+use Rattle.jxl_totals.specs.Naming.{numbered}
 use Rattle.jxl_feed.specs.Fed.{toldFed}
 use Rattle.jxl_feed.specs.declared.Fed.{Fed}
 use Rattle.jxl_feed.proofs.Fed as S

@@ -25,16 +25,16 @@ use denote.Triple.Statement.{Contract, Triple}
 use denote.Triple.Call.{calls-at}
 use denote.Triple.Clauses.{ensured, lasts}
 use denote.Triple.Spec.{tripleOf}
-use Rattle.jxl_record.specs.Record.{fresh, kindOf}
-use Rattle.jxl_record.specs.declared.ContainerParser.{ContainerParser}
+use Rattle.jxl_totals.specs.Step.{fresh, kindOf}
+use Rattle.jxl_totals.specs.declared.ContainerParser.{ContainerParser}
 use Rattle.jxl_record.specs.declared.BitstreamKind.{BitstreamKind}
-use Rattle.jxl_record.proofs.ContainerParser as P
-use Rattle.jxl_record.proofs.ContainerParser.Laws as P′
+use Rattle.jxl_totals.proofs.ContainerParser as P
+use Rattle.jxl_totals.proofs.ContainerParser.Laws as P′
 use Rattle.jxl_record.proofs.BitstreamKind as B
-use Rattle.jxl_record.proofs.ContainerParser.new as new
-use Rattle.jxl_record.proofs.ContainerParser.new.Symbol.{name as #jxl-record·new}
-use Rattle.jxl_record.proofs.ContainerParser.kind as tell
-use Rattle.jxl_record.proofs.ContainerParser.kind.Symbol.{name as #jxl-record·kind}
+use Rattle.jxl_totals.proofs.ContainerParser.new as new
+use Rattle.jxl_totals.proofs.ContainerParser.new.Symbol.{name as #jxl-totals·new}
+use Rattle.jxl_totals.proofs.ContainerParser.kind as tell
+use Rattle.jxl_totals.proofs.ContainerParser.kind.Symbol.{name as #jxl-totals·kind}
 
 -- a parser's machine value
 abbrev pub mach : ContainerParser → Val
@@ -74,18 +74,18 @@ module _ {M : Type 1} {𝓤 : URA M} {H : Heap 𝓤} {A : Atoms 𝓤} {K : Type 
       let same : w ∷ [] ≡ mach fresh ∷ [] = LL.tells P.the-type P′.the-laws fresh _ is in
       subst (λ (z : Val). Seq K W Γ (lands C Λ E d z rest ends)) (sym (ap only same)) (k (subst (λ (vs : List Val). Is P.the-row fresh vs) same is))
 
-  pub news : K → (mem : Memory → SProp 𝓤) (run : Routine → Fun 𝓤) → FmC 𝓤 H (W .laws) C → Triple 𝓤 (C #jxl-record·new) (New 𝓤 H A mem run)
-      → (Is P.the-row fresh (mach fresh ∷ []) → Seq K W Γ (lands C Λ E d (mach fresh) rest ends)) → Seq K W Γ (runs C Λ E (seq (call #jxl-record·new [] d) rest) ends)
+  pub news : K → (mem : Memory → SProp 𝓤) (run : Routine → Fun 𝓤) → FmC 𝓤 H (W .laws) C → Triple 𝓤 (C #jxl-totals·new) (New 𝓤 H A mem run)
+      → (Is P.the-row fresh (mach fresh ∷ []) → Seq K W Γ (lands C Λ E d (mach fresh) rest ends)) → Seq K W Γ (runs C Λ E (seq (call #jxl-totals·new [] d) rest) ends)
   news t mem run fm known k =
       use0 W (raw (New 𝓤 H A mem run .pre (to-new 𝓤 H A mem run))) (new-asks 𝓤 H A mem run W) $ calls-at t fm (New 𝓤 H A mem run) known (to-new 𝓤 H A mem run) (no-more t) (λ w.
       use1 W (later (some (λ (r : ContainerParser). (‵ ftrue ⊛ ‵ (P.the-row .own r (w ∷ []))) ⊛ raw (ensured 𝓤 H A new.ended (new.clauses 𝓤 H A mem run) tt tt tt r)))) (id⊢ 𝓤 _) $ await t tt $ pick t (λ r.
       split t $ move t (1 ∷ []) $ use1 W (raw (fact 𝓤 (r ≡ fresh))) (new-says 𝓤 H A mem run r) $ heard t (r ≡ fresh) (λ e. split t $ drop t $
       peeks t P.the-row (Is P.the-row) (shows 𝓤 H A P.the-row) r (w ∷ []) (λ is. drop t $ at-value w (subst (λ (h : ContainerParser). Is P.the-row h (w ∷ [])) e is) k))))
 
-  pub tells : K → (mem : Memory → SProp 𝓤) (run : Routine → Fun 𝓤) → FmC 𝓤 H (W .laws) C → Triple 𝓤 (C #jxl-record·kind) (Tell 𝓤 H A mem run)
+  pub tells : K → (mem : Memory → SProp 𝓤) (run : Routine → Fun 𝓤) → FmC 𝓤 H (W .laws) C → Triple 𝓤 (C #jxl-totals·kind) (Tell 𝓤 H A mem run)
       → {xs : List Operand} (h : ContainerParser) → Is P.the-row h (mach h ∷ []) → ((i : Item 𝓤) → Opds K W (i ∷ Γ) E xs (mach h ∷ []))
       → ((u : Val) (r : BitstreamKind) → r ≡ kindOf h → Is B.the-row r (u ∷ []) → Seq K W (‵ (B.the-row .own r (u ∷ [])) ∷ Γ) (lands C Λ E d u rest ends))
-      → Seq K W Γ (runs C Λ E (seq (call #jxl-record·kind xs d) rest) ends)
+      → Seq K W Γ (runs C Λ E (seq (call #jxl-totals·kind xs d) rest) ends)
   tells t mem run fm known h is os k =
       use0 W (raw (Tell 𝓤 H A mem run .pre (to-tell 𝓤 H A mem run h))) (tell-asks 𝓤 H A mem run W h is) $ calls-at t fm (Tell 𝓤 H A mem run) known (to-tell 𝓤 H A mem run h) (os _) (λ u.
       use1 W (later (some (λ (r : BitstreamKind). (‵ ftrue ⊛ ‵ (B.the-row .own r (u ∷ []))) ⊛ raw (ensured 𝓤 H A tell.ended (tell.clauses 𝓤 H A mem run) tt (h, tt) tt r)))) (id⊢ 𝓤 _) $ await t tt $ pick t (λ r.

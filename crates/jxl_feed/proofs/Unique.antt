@@ -1,10 +1,10 @@
 -- Two answers that meet a promise are equal.
 use mathlib.Core.Path.{_≡_, sym, _∙_}
 use Rattle.jxl_base.proofs.OneAnswer.{one-named}
-use Rattle.jxl_refusals.specs.Refusals.{why}
-use Rattle.jxl_refusals.proofs.Telling.{why-tells}
-use Rattle.jxl_record.specs.Record.{kindOf}
-use Rattle.jxl_record.specs.declared.ContainerParser.{ContainerParser}
+use Rattle.jxl_totals.specs.Step.{kindOf}
+use Rattle.jxl_totals.specs.Naming.{said}
+use Rattle.jxl_totals.specs.declared.ContainerParser.{ContainerParser}
+use Rattle.jxl_counts.proofs.Unique.{said-tells}
 use Rattle.jxl_feed.specs.Fed.{toldFed}
 use Rattle.jxl_feed.specs.Theorems.{OneFeedBytes, OneKindLent}
 use Rattle.jxl_feed.specs.declared.Fed.{Fed}
@@ -20,8 +20,8 @@ told-one (A.Want n) (A.Refused u m) q r h = (cc, cc)
 told-one (A.Refused w n) (A.Shown f m) q r h = (cc, cc)
 told-one (A.Refused w n) (A.Want m) q r h = (cc, cc)
 told-one (A.Refused w n) (A.Refused u m) q r h =
-    let same : why w ≡ why u = cc in
-    let rule : w ≡ u = why-tells w u same in
+    let same : said w ≡ said u = cc in
+    let refusal : w ≡ u = said-tells w u same in
     (cc, cc)
 
 pub one-feed-bytes : OneFeedBytes

@@ -3,10 +3,10 @@ use mathlib.Core.Path.{_≡_}
 use mathlib.Core.List.{List}
 use Prim.Native.Nat.{ℕ}
 use Rattle.jxl_base.specs.OneAnswer.{OneAnswer}
-use Rattle.jxl_record.specs.Record.{kindOf}
-use Rattle.jxl_record.specs.declared.ContainerParser.{ContainerParser}
-use Rattle.jxl_grammar.specs.Step.{stepOf}
-use Rattle.jxl_grammar.specs.Naming.{numbered}
+use Rattle.jxl_totals.specs.Step.{kindOf}
+use Rattle.jxl_totals.specs.declared.ContainerParser.{ContainerParser}
+use Rattle.jxl_totals.specs.Step.{stepOf}
+use Rattle.jxl_totals.specs.Naming.{numbered}
 use Rattle.jxl_feed.specs.Fed.{toldFed}
 use Rattle.jxl_feed.specs.declared.Fed.{Fed}
 

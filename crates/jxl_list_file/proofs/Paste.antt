@@ -1,12 +1,11 @@
 -- Lines counted, and put one behind the other into a buffer.
-use mathlib.Core.Path.{_≡_, refl, sym, ap, _∙_}
+use mathlib.Core.Path.{_≡_, sym, ap, _∙_}
 use mathlib.Core.List.{List, _++_}
-use Prim.Native.Nat.{ℕ, _+_, _-_, _<_, _≤_, min}
+use Prim.Native.Nat.{ℕ, _+_, _-_, _≤_, min}
 use native.Mathlib.Nat.{zero-add}
 use native.Mathlib.Omega.{arith}
-use lib.Dec.{leb}
-use lib.ListN.{length, take, drop, length-append, length-drop, take-append-drop}
-use lib.Seq.{take-add, take-at, drop-drop, drop-append-add, take-append-seam, drop-append-seam, drop-at, length-take-le, take-length}
+use lib.ListN.{length, take, drop, length-append, length-drop}
+use lib.Seq.{take-add, take-at, drop-drop, drop-append-add, take-append-seam, drop-append-seam, length-take-le, take-length}
 use borrow.Author.Tests.{le-leb}
 use Rattle.jxl_lines.specs.Pasting.{pasted}
 use Rattle.jxl_lines.specs.Putting.{leaves, putOf}

@@ -1,6 +1,5 @@
 // The listing of a whole file in memory.
 use jxl_container::ContainerParser;
-use jxl_container::ParseEvent;
 use jxl_container::StepResult;
 use jxl_lines::Line;
 use jxl_lines::StopWord;
@@ -15,35 +14,40 @@ ghost use Rattle.jxl_lines.specs.Pasting.{pasted};
 ghost use Rattle.jxl_lines.specs.Putting.{leaves};
 ghost use Rattle.jxl_list_rules.specs.Listed.{fileText, listOf, nextOf};
 
-// One step on the file from `at` on.
-fn next(parser: ContainerParser, file: &[u8], at: usize) -> AfterStep
-    requires { ⌜ at ≤ length (now file) ⌝ }
-    ensures { λ r. ⌜ r ≡ nextOf parser at (drop at (now (file .entry))) ⌝ }
+// One step on the file behind the bytes consumed, which the record counts.
+fn next(parser: ContainerParser, file: &[u8]) -> AfterStep
+    requires { ⌜ parser .total ≤ length (now file) ⌝ }
+    ensures { λ r. ⌜ r ≡ nextOf parser (drop (parser .total) (now (file .entry))) ⌝ }
 {
+    let at = parser.total as usize;
     match jxl_container::step(parser, &file[at..]) {
         StepResult::Shown {
-            event,
             next,
-            consumed,
-        } => AfterStep::Shown {
-            event: jxl_events::moved(event, at),
-            parser: next,
-            at: at + consumed,
-        },
-        StepResult::Want { next, consumed } => AfterStep::Stopped {
+            consumed: _,
+            event,
+        } => {
+            let placed = event.in_file();
+            let event = placed.event;
+            AfterStep::Shown {
+                event,
+                parser: next,
+            }
+        }
+        StepResult::Want { next, consumed: _ } => AfterStep::Stopped {
             stop: StopWord::Want,
             parser: next,
-            at: at + consumed,
         },
         StepResult::Refused {
-            refusal,
             next,
-            consumed,
-        } => AfterStep::Stopped {
-            stop: StopWord::refused(refusal),
-            parser: next,
-            at: at + consumed,
-        },
+            consumed: _,
+            refusal,
+        } => {
+            let rule = refusal.rule;
+            AfterStep::Stopped {
+                stop: StopWord::refused(rule),
+                parser: next,
+            }
+        }
     }
 }
 
@@ -52,26 +56,20 @@ fn measure(file: &[u8]) -> usize
     ensures { λ r. ⌜ r ≡ min (length (fileText (now (file .entry)))) (2 ^ 64 - 1) ⌝ }
 {
     let mut parser = ContainerParser::new();
-    let mut at = 0;
-    let mut total = 0;
+    let mut sum = 0;
     loop {
-        match next(parser, file, at) {
+        match next(parser, file) {
             AfterStep::Shown {
                 event,
                 parser: then,
-                at: further,
             } => {
-                total = saturating_sum(total, jxl_lengths::line_length(Line::Shown(event)));
+                sum = saturating_sum(sum, jxl_lengths::line_length(Line::Shown(event)));
                 parser = then;
-                at = further;
             }
-            AfterStep::Stopped {
-                stop,
-                parser: _,
-                at: consumed,
-            } => {
+            AfterStep::Stopped { stop, parser: last } => {
+                let consumed = last.total as usize;
                 return saturating_sum(
-                    total,
+                    sum,
                     jxl_lengths::line_length(Line::Stopped { stop, consumed }),
                 );
             }
@@ -85,24 +83,18 @@ fn write(file: &[u8], out: &mut [u8]) -> usize
     ensures { λ r. ⌜ (r ≡ length (fileText (now (file .entry)))) × (now (out .exit) ≡ pasted (now (out .entry)) 0 (fileText (now (file .entry)))) ⌝ }
 {
     let mut parser = ContainerParser::new();
-    let mut at = 0;
     let mut written = 0;
     loop {
-        match next(parser, file, at) {
+        match next(parser, file) {
             AfterStep::Shown {
                 event,
                 parser: then,
-                at: further,
             } => {
                 written = put(out, written, Line::Shown(event));
                 parser = then;
-                at = further;
             }
-            AfterStep::Stopped {
-                stop,
-                parser: _,
-                at: consumed,
-            } => {
+            AfterStep::Stopped { stop, parser: last } => {
+                let consumed = last.total as usize;
                 return put(out, written, Line::Stopped { stop, consumed });
             }
         }

@@ -1,67 +1,55 @@
 -- One turn, event by event.
-use mathlib.Core.Path.{_≡_, refl, sym, ap}
+use mathlib.Core.Path.{_≡_, sym, ap}
 use mathlib.Core.List.{List, _++_, append-assoc}
-use Prim.Native.Nat.{ℕ, suc, _+_, _-_, _^_, _<_, _≤_}
-use native.Mathlib.Omega.{arith}
-use lib.Dec.{leb, ltb}
+use Prim.Native.Nat.{ℕ, suc, _+_, _-_, _<_, _≤_}
 use lib.ListN.{length, drop}
-use borrow.Author.Tests.{le-leb, lt-leb, lt-ltb, le-ltb}
-use Rattle.jxl_events.specs.Event.{shifted}
-use Rattle.jxl_record.specs.declared.ContainerParser.{ContainerParser}
-use Rattle.jxl_events.specs.declared.ParseEvent.{ParseEvent}
-use Rattle.jxl_events.specs.declared.ParseEvent.the-variants as E
-use Rattle.jxl_joiner.specs.Joiner.{adding, handed}
+use borrow.Author.Tests.{le-leb, lt-leb}
+use Rattle.jxl_events.specs.Total.{further}
+use Rattle.jxl_events.specs.declared.FileEvent.{FileEvent}
+use Rattle.jxl_events.proofs.Shifted.{in-file-anywhere}
+use Rattle.jxl_refusals.specs.Refusals.{why}
+use Rattle.jxl_totals.specs.Step.{shows, wants, refuses, stepOf}
+use Rattle.jxl_totals.specs.Feeding.{Seen}
+use Rattle.jxl_totals.specs.declared.ContainerParser.{ContainerParser}
+use Rattle.jxl_totals.specs.declared.FileRefusal.{FileRefusal}
+use Rattle.jxl_joiner.specs.Joiner.{adding, putting}
 use Rattle.jxl_joiner.specs.declared.MaybeEvent.{MaybeEvent}
-use Rattle.jxl_lines.specs.declared.StopWord.{StopWord}
-use Rattle.jxl_list_rules.specs.Listed.{texts, nextOf}
-use Rattle.jxl_list_rules.specs.Turned.{Turned, over, behind, turnBy, turning, turnFrom, turnOf}
+use Rattle.jxl_joiner.specs.declared.MaybeEvent.the-variants.{None, Some}
+use Rattle.jxl_joiner.specs.Joiner.{added}
+use Rattle.jxl_lines.specs.Lines.{printed}
+use Rattle.jxl_lines.specs.declared.StopWord.the-variants as S
+use Rattle.jxl_list_rules.specs.Turned.{Turned, over, behind, lineOf, heldThen, turnBy, turning, turnFrom}
 use Rattle.jxl_list_rules.specs.declared.TurnEnd.the-variants as TurnEnd
-use Rattle.jxl_list_rules.specs.declared.AfterStep.the-variants as N
-use Rattle.jxl_list_rules.proofs.Text.{following-shown}
+use Rattle.jxl_list_rules.proofs.Text.{count, taken-shown}
 
--- the line of the event that a joiner hands back for the next one
-abbrev pub line : ℕ → MaybeEvent → ParseEvent → List ℕ
-line base h e = texts (handed (adding h (shifted base e) .out))
-
-abbrev pub held : ℕ → MaybeEvent → ParseEvent → MaybeEvent
-held base h e = adding h (shifted base e) .next .held
-
-module _ (base : ℕ) (s : List ℕ) (room : ℕ) (p : ContainerParser) (h : MaybeEvent) (k : ℕ) where
-  pub turn-shown : {e : ParseEvent} {q : ContainerParser} {m : ℕ} → k ≤ length s → nextOf p k (drop k s) ≡ N.Shown e q m → length (line base h e) ≤ room
-      → turnFrom base s room p h k ≡ behind (line base h e) (turnFrom base s (room - length (line base h e)) q (held base h e) m)
+module _ (s : List ℕ) (room : ℕ) (p : ContainerParser) (h : MaybeEvent) (k : ℕ) where
+  pub turn-shown : {e : FileEvent} {q : ContainerParser} {c : ℕ} → stepOf p (drop k s) ≡ shows e q c → length (lineOf h e) ≤ room
+      → turnFrom s room p h k ≡ behind (lineOf h e) (turnFrom s (room - length (lineOf h e)) q (heldThen h e) (k + c))
   unfolding turning
-  turn-shown {e} {q} {m} i n f =
-      rw (n, turnBy, le-leb (length (line base h e)) room f, following-shown p s k i n .2)
+  turn-shown {e} {q} {c} st f =
+      let fewer : count p k s ≡ suc (count q (k + c) s) = ap (λ (x : Seen). length (x .shown)) (taken-shown p s k st) in
+      rw (st, turnBy, le-leb (length (lineOf h e)) room f, fewer)
 
-  pub turn-full : {e : ParseEvent} {q : ContainerParser} {m : ℕ} → nextOf p k (drop k s) ≡ N.Shown e q m → room < length (line base h e)
-      → turnFrom base s room p h k ≡ over TurnEnd.Full p h k
+  pub turn-full : {e : FileEvent} {q : ContainerParser} {c : ℕ} → stepOf p (drop k s) ≡ shows e q c → room < length (lineOf h e)
+      → turnFrom s room p h k ≡ over TurnEnd.Full p h k
   unfolding turning
-  turn-full {e} n f = rw (n, turnBy, lt-leb (length (line base h e)) room f)
+  turn-full {e} st f = rw (st, turnBy, lt-leb (length (lineOf h e)) room f)
 
-  pub turn-stopped : {w : StopWord} {q : ContainerParser} {m : ℕ} → nextOf p k (drop k s) ≡ N.Stopped w q m → turnFrom base s room p h k ≡ over (TurnEnd.Stopped w) q h m
+  pub turn-wants : {q : ContainerParser} {c : ℕ} → stepOf p (drop k s) ≡ wants q c → turnFrom s room p h k ≡ over (TurnEnd.Stopped S.Want) q h (k + c)
   unfolding turning
-  turn-stopped n = rw n
+  turn-wants st = rw st
+
+  pub turn-refuses : {r : FileRefusal} {q : ContainerParser} {c : ℕ} → stepOf p (drop k s) ≡ refuses r q c
+      → turnFrom s room p h k ≡ over (TurnEnd.Stopped (printed (why (r .rule)))) q h (k + c)
+  unfolding turning
+  turn-refuses st = rw st
 
 -- lines behind lines
 pub behind-behind : (a b : List ℕ) (t : Turned) → behind a (behind b t) ≡ behind (a ++ b) t
 behind-behind a b t =
     ap (λ (l : List ℕ). record { lines = l; parser = t .parser; held = t .held; consumed = t .consumed; end = t .end }) (sym (append-assoc a b (t .lines)))
 
--- an event moved on by a sum
-pub shift-sum : (b k : ℕ) (e : ParseEvent) → shifted (b + k) e ≡ shifted b (shifted k e)
-shift-sum b k (E.BitstreamKind x) = refl
-shift-sum b k E.NoMoreAuxBox = refl
-shift-sum b k (E.Codestream a n) = ap (λ (x : ℕ). E.Codestream x n) (omega arith)
-shift-sum b k (E.AuxBoxStart t c x) = refl
-shift-sum b k (E.AuxBoxData t a n) = ap (λ (x : ℕ). E.AuxBoxData t x n) (omega arith)
-shift-sum b k (E.AuxBoxEnd t) = refl
-
--- whether the input's place in the file fits
-module _ (base : ℕ) (s : List ℕ) (room : ℕ) (p : ContainerParser) (h : MaybeEvent) where
-  pub turn-near : base + length s < 2 ^ 64 → turnFrom base s room p h 0 ≡ turnOf base s room p h
-  unfolding turnOf
-  turn-near f = rw (turnOf, lt-ltb (base + length s) 18446744073709551616 f)
-
-  pub turn-too-far : 2 ^ 64 ≤ base + length s → over TurnEnd.TooFar p h 0 ≡ turnOf base s room p h
-  unfolding turnOf
-  turn-too-far f = rw (turnOf, le-ltb (base + length s) 18446744073709551616 f)
+-- a joiner gives an event its place in the file, wherever it stood before
+pub adding-further : (h : MaybeEvent) (n : ℕ) (e : FileEvent) → adding h (further n e) ≡ adding h e
+adding-further None n e = ap (λ (x : FileEvent). added None (Some x)) (in-file-anywhere n e)
+adding-further (Some x) n e = ap (putting x) (in-file-anywhere n e)

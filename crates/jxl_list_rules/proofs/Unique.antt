@@ -4,7 +4,7 @@ use mathlib.Core.List.{List}
 use Prim.Native.Nat.{ℕ}
 use lib.ListN.{length}
 use Rattle.jxl_base.proofs.OneAnswer.{one-named}
-use Rattle.jxl_record.specs.declared.ContainerParser.{ContainerParser}
+use Rattle.jxl_totals.specs.declared.ContainerParser.{ContainerParser}
 use Rattle.jxl_joiner.specs.declared.MaybeEvent.{MaybeEvent}
 use Rattle.jxl_list_rules.specs.Theorems.{OneListing, OneShortWay, OneTurn}
 use Rattle.jxl_list_rules.specs.Turned.{Told}
@@ -16,7 +16,7 @@ pub one-listing : OneListing
 one-listing d w r q b c p e = let same = p ∙ sym e in (cc, cc)
 
 pub one-short-way : OneShortWay
-one-short-way p h base n = one-named (wayOf p h base n)
+one-short-way p h n = one-named (wayOf p h n)
 
 abbrev answer : ContainerParser → MaybeEvent → ℕ → ℕ → TurnEnd → AfterTurn
 answer p h k w e = record { parser = p; joiner = record { held = h }; consumed = k; written = w; end = e }

@@ -3,7 +3,7 @@
 use mathlib.Core.List.{List, [], _∷_, _++_}
 use Prim.Native.Nat.{ℕ, _+_}
 use lib.ListN.{drop}
-use Rattle.jxl_record.specs.declared.ContainerParser.{ContainerParser}
+use Rattle.jxl_totals.specs.declared.ContainerParser.{ContainerParser}
 use Rattle.jxl_joiner.specs.declared.MaybeEvent.{MaybeEvent}
 use Rattle.jxl_list_rules.specs.Turned.{Turned, over, turnOf}
 use Rattle.jxl_list_rules.specs.declared.TurnEnd.{TurnEnd}
@@ -17,11 +17,10 @@ goesOn t u = record { lines = t .lines ++ u .lines; parser = u .parser; held = u
 abbrev pub rowBy : Turned → Turned → TurnEnd → Turned
 rowBy t rest TurnEnd.Full = goesOn t rest
 rowBy t rest (TurnEnd.Stopped w) = t
-rowBy t rest TurnEnd.TooFar = t
 
 -- a turn with each room; with no room left the row stays where it is
-unfoldable pub rowOf : ℕ → List ℕ → List ℕ → ContainerParser → MaybeEvent → Turned
-rowOf base s [] p h = over TurnEnd.Full p h 0
-rowOf base s (room ∷ rooms) p h =
-    let t = turnOf base s room p h in
-    rowBy t (rowOf (base + t .consumed) (drop (t .consumed) s) rooms (t .parser) (t .held)) (t .end)
+unfoldable pub rowOf : List ℕ → List ℕ → ContainerParser → MaybeEvent → Turned
+rowOf s [] p h = over TurnEnd.Full p h 0
+rowOf s (room ∷ rooms) p h =
+    let t = turnOf s room p h in
+    rowBy t (rowOf (drop (t .consumed) s) rooms (t .parser) (t .held)) (t .end)

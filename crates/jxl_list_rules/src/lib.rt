@@ -3,27 +3,24 @@
 use jxl_events::ParseEvent;
 use jxl_joiner::Joiner;
 use jxl_lines::StopWord;
-use jxl_record::ContainerParser;
+use jxl_totals::ContainerParser;
 
-// What comes next: an event with its place in the file, or the stop; and the record and the place then.
+// What comes next: an event with its place in the file, or the stop; and the record then.
 pub enum AfterStep {
     Shown {
         event: ParseEvent,
         parser: ContainerParser,
-        at: usize,
     },
     Stopped {
         stop: StopWord,
         parser: ContainerParser,
-        at: usize,
     },
 }
 
-// Why a turn ended: the next line has no room; the parser wants more or refuses; the input's place passes 2^64 - 1.
+// Why a turn ended: the next line has no room; or the parser wants more or refuses.
 pub enum TurnEnd {
     Full,
     Stopped(StopWord),
-    TooFar,
 }
 
 // What a turn leaves: the record, the joiner, the bytes of the input consumed, and the bytes of lines written.

@@ -1,2 +1,1 @@
-pub mod Putting
-mod Going
+mod Short

@@ -1,37 +1,48 @@
 // The short way through a turn whose input lies inside the codestream part held.
+use jxl_events::FileEvent;
 use jxl_events::ParseEvent;
+use jxl_impossible::over_index;
 use jxl_joiner::Joiner;
 use jxl_joiner::MaybeEvent;
 use jxl_list_rules::Way;
-use jxl_record::ContainerParser;
+use jxl_record::BoxParser;
 use jxl_record::DetectState;
+use jxl_totals::ContainerParser;
 ghost use mathlib.Core.Path.{_≡_};
-ghost use Prim.Native.Nat.{_+_, _^_, _<_};
-ghost use lib.Dec.{eqb, ltb};
-ghost use Rattle.jxl_headers.specs.Bytes.{and};
+ghost use Prim.Native.Nat.{_+_, _^_, _<_, _≤_};
+ghost use lib.Dec.{eqb, leb};
+ghost use Rattle.jxl_totals.specs.Step.{limit};
 ghost use Rattle.jxl_list_rules.specs.Way.{wayBehind, wayOf};
 
-// Whether `len` bytes at `at` end at `base`, and `n` bytes more fit.
-fn reaches(at: usize, len: usize, base: usize, n: usize) -> bool
-    ensures { λ r. ⌜ r ≡ and (eqb (at + len) base) (ltb (len + n) (2 ^ 64)) ⌝ }
+// Whether `n` bytes behind `total` end at the limit of a file or before.
+fn within(total: u64, n: usize) -> bool
+    ensures { λ r. ⌜ r ≡ leb (total + n) limit ⌝ }
 {
-    if base < at {
-        return false;
-    }
-    if base - at == len {
-        n <= 0xffff_ffff_ffff_ffff - len
+    if total <= 0x7fff_ffff_ffff_ffff {
+        n as u64 <= 0x7fff_ffff_ffff_ffff - total
     } else {
         false
     }
 }
 
-// The way of a turn on `n` bytes behind the codestream part of `len` bytes at `at`.
-fn way_behind(parser: ContainerParser, at: usize, len: usize, n: usize) -> Way
-    requires { ⌜ len + n < 2 ^ 64 ⌝ }
-    ensures { λ r. ⌜ r ≡ wayBehind (parser .jxlp) at len n (parser .state) ⌝ }
+// Whether `len` bytes at `at` end at `total`.
+fn ends_at(at: usize, len: usize, total: u64) -> bool
+    ensures { λ r. ⌜ r ≡ eqb (at + len) total ⌝ }
 {
-    let state = parser.state;
-    let jxlp = parser.jxlp;
+    if (total as usize) < at {
+        return false;
+    }
+    total as usize - at == len
+}
+
+// The rules' record behind `n` bytes inside a codestream, with no event to tell first and something left behind them.
+fn way_behind(parser: ContainerParser, at: usize, n: usize) -> Way
+    requires { ⌜ (parser .total + n < 2 ^ 64) × (at ≤ parser .total) ⌝ }
+    ensures { λ r. ⌜ r ≡ wayBehind parser at n ⌝ }
+{
+    let boxes = parser.boxes;
+    let state = boxes.state;
+    let jxlp = boxes.jxlp;
     match state {
         DetectState::InCodestream {
             kind,
@@ -41,24 +52,33 @@ fn way_behind(parser: ContainerParser, at: usize, len: usize, n: usize) -> Way
             if pending_no_more_aux_box {
                 return Way::Long;
             }
-            if jxlp.over_index() {
+            if over_index(jxlp) {
                 return Way::Long;
             }
             let then = left.less(n as u64);
             if then.under(1) {
                 return Way::Long;
             }
+            let total = parser.total + n as u64;
+            let state = DetectState::InCodestream {
+                kind,
+                bytes_left: then,
+                pending_no_more_aux_box: false,
+            };
             Way::Short {
                 parser: ContainerParser {
-                    state: DetectState::InCodestream {
-                        kind,
-                        bytes_left: then,
-                        pending_no_more_aux_box: false,
-                    },
-                    jxlp,
+                    boxes: BoxParser { state, jxlp },
+                    total,
+                    header: parser.header,
                 },
                 joiner: Joiner {
-                    held: MaybeEvent::Some(ParseEvent::Codestream { at, len: len + n }),
+                    held: MaybeEvent::Some(FileEvent {
+                        event: ParseEvent::Codestream {
+                            at,
+                            len: total as usize - at,
+                        },
+                        total,
+                    }),
                 },
             }
         }
@@ -66,22 +86,29 @@ fn way_behind(parser: ContainerParser, at: usize, len: usize, n: usize) -> Way
     }
 }
 
-// The way of a turn on `n` bytes at `base`. Most turns on a large picture lie inside one payload.
-pub fn way(parser: ContainerParser, joiner: Joiner, base: usize, n: usize) -> Way
-    ensures { λ r. ⌜ r ≡ wayOf parser (joiner .held) base n ⌝ }
+// The way of a turn on `n` bytes. Most turns on a large picture lie inside one payload.
+pub fn way(parser: ContainerParser, joiner: Joiner, n: usize) -> Way
+    ensures { λ r. ⌜ r ≡ wayOf parser (joiner .held) n ⌝ }
 {
     let held = joiner.held;
+    if n == 0 {
+        return Way::Long;
+    }
     match held {
         MaybeEvent::None => Way::Long,
-        MaybeEvent::Some(event) => match event {
-            ParseEvent::Codestream { at, len } => {
-                if reaches(at, len, base, n) {
-                    way_behind(parser, at, len, n)
-                } else {
+        MaybeEvent::Some(first) => {
+            let event = first.event;
+            match event {
+                ParseEvent::Codestream { at, len } => {
+                    if within(parser.total, n) {
+                        if ends_at(at, len, parser.total) {
+                            return way_behind(parser, at, n);
+                        }
+                    }
                     Way::Long
                 }
+                _ => Way::Long,
             }
-            _ => Way::Long,
-        },
+        }
     }
 }

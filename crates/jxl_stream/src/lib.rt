@@ -27,7 +27,8 @@ fn put(out: &mut [u8], at: usize, line: Line) -> usize {
 fn write_held(joiner: Joiner, out: &mut [u8]) -> bool {
     match joiner.finish() {
         MaybeEvent::None => true,
-        MaybeEvent::Some(event) => {
+        MaybeEvent::Some(whole) => {
+            let event = whole.event;
             let end = put(out, 0, Line::Shown(event));
             io::write_all(libc::STDOUT_FILENO, part(out, 0, end))
         }
@@ -46,7 +47,7 @@ fn write_stop(joiner: Joiner, out: &mut [u8], stop: StopWord, consumed: usize) {
 // the input the rest is written, and there are none.
 fn read_more(
     joiner: Joiner,
-    base: usize,
+    consumed: usize,
     fd: i32,
     buf: &mut [u8],
     from: usize,
@@ -61,7 +62,7 @@ fn read_more(
         return 0;
     }
     if got == 0 {
-        write_stop(joiner, out, StopWord::Want, base);
+        write_stop(joiner, out, StopWord::Want, consumed);
         return 0;
     }
     std::num::wrapping_add_usize(unread, io::count(got, buf))
@@ -75,28 +76,26 @@ fn follow(joiner: Joiner, end: TurnEnd, written: usize, consumed: usize, out: &m
     match end {
         TurnEnd::Full => Next::Turn,
         TurnEnd::Stopped(stop) => follow_stop(joiner, stop, consumed, out),
-        TurnEnd::TooFar => Next::Nothing,
     }
 }
 
-// What follows the parser's stop. After a refusal the rest is written, and nothing more is read.
+// What follows the parser's stop. After a refusal, the limit's too, the rest is written, and nothing more is read.
 fn follow_stop(joiner: Joiner, stop: StopWord, consumed: usize, out: &mut [u8]) -> Next {
     match stop {
         StopWord::Want => Next::Read,
-        StopWord::Refused1 | StopWord::Refused2 => {
+        StopWord::Refused1 | StopWord::Refused2 | StopWord::Limit => {
             write_stop(joiner, out, stop, consumed);
             Next::Nothing
         }
     }
 }
 
-// Lists what the descriptor gives, through the two buffers: `base` is the place in the file of the first byte not consumed, which
-// lies at `from` in the buffer. A proved loop has to end, and nothing says that a stream does: the loop counts its turns down from
-// a number that no run uses up.
+// Lists what the descriptor gives, through the two buffers: the first byte not consumed lies at `from` in the buffer, and at the
+// record's total in the file. A proved loop has to end, and nothing says that a stream does: the loop counts its turns down from a
+// number that no run uses up.
 fn list_through(fd: i32, buf: &mut [u8], out: &mut [u8]) {
     let mut parser = ContainerParser::new();
     let mut joiner = Joiner::new();
-    let mut base = 0;
     let mut from = 0;
     let mut upto = 0;
     let mut next = Next::Read;
@@ -106,16 +105,15 @@ fn list_through(fd: i32, buf: &mut [u8], out: &mut [u8]) {
         match next {
             Next::Turn => {
                 let input = part(buf, from, upto);
-                let after = jxl_list_turn::turn(parser, joiner, base, input, out);
+                let after = jxl_list_turn::turn(parser, joiner, input, out);
                 parser = after.parser;
                 joiner = after.joiner;
-                base = std::num::wrapping_add_usize(base, after.consumed);
                 from = std::num::wrapping_add_usize(from, after.consumed);
                 let end = after.end;
-                next = follow(joiner, end, after.written, base, out);
+                next = follow(joiner, end, after.written, parser.total as usize, out);
             }
             Next::Read => {
-                upto = read_more(joiner, base, fd, buf, from, upto, out);
+                upto = read_more(joiner, parser.total as usize, fd, buf, from, upto, out);
                 from = 0;
                 next = if upto == 0 { Next::Nothing } else { Next::Turn };
             }

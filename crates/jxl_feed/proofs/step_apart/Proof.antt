@@ -2,7 +2,7 @@
 -- Assumes nothing.
 use mathlib.Core.Path.{_∙_, ap, sym}
 use borrow.Author.Needs.{needs}
-use Rattle.jxl_payloads.specs.Told.{told}
+use Rattle.jxl_counts.specs.Told.{told}
 use Rattle.jxl_feed.proofs.step_apart.Statement.{statement}
 use Rattle.jxl_feed.proofs.step_apart.Tie as tie
 

@@ -1,10 +1,8 @@
-use mathlib.Core.Path.{ap, _∙_}
-use native.Mathlib.Omega.{arith}
+use mathlib.Core.Path.{ap}
 use denote.Ref.{now}
-use Rattle.jxl_events.proofs.Shifted.{moved-fits}
-use Rattle.jxl_payloads.proofs.Ruled.{ruled, by-rule}
-use Rattle.jxl_list_rules.proofs.Text.{far, shown-fits, wants-fits, refuses-fits}
 use borrow.Author.Needs.{needs}
+use Rattle.jxl_counts.proofs.Ruled.{ruled, by-rule}
+use Rattle.jxl_list_rules.proofs.Text.{far}
 use Rattle.jxl_list_file.proofs.next.Statement.{statement}
 use Rattle.jxl_list_file.proofs.next.Tie as tie
 
@@ -23,17 +21,11 @@ step-requires c κs = search needs
 enum-known-next : tie.Need-enum-known-next
 enum-known-next c = search needs
 
-moved-requires : tie.Need-moved-requires
-moved-requires c κs = search needs
-
-add-t19 : tie.Need-add-t19
-add-t19 c = omega (arith, shown-fits (c .before .before .before .before .before .before .before .args .parser) (now (c .before .before .before .before .before .before .before .args .file)) (c .before .before .before .before .before .before .before .args .at) (c .before .before .before .before .before .before .before .pre) (far (c .before .before .before .before .before .before .before .args .parser) (now (c .before .before .before .before .before .before .before .args .file)) (c .before .before .before .before .before .before .before .args .at) (c .before .before .before .before .before .before .before .pre) (by-rule (c .before .before .before .before .step .result) _ (c .before .before .before .before .step .ensures)) (ap ruled (c .before .before .next .given .1))) .1)
+in-file-requires : tie.Need-in-file-requires
+in-file-requires c κs = search needs
 
 enum-known-next-2 : tie.Need-enum-known-next-2
 enum-known-next-2 c = search needs
-
-add-t21 : tie.Need-add-t21
-add-t21 c = omega (arith, wants-fits (c .before .before .before .before .before .before .args .parser) (now (c .before .before .before .before .before .before .args .file)) (c .before .before .before .before .before .before .args .at) (c .before .before .before .before .before .before .pre) (far (c .before .before .before .before .before .before .args .parser) (now (c .before .before .before .before .before .before .args .file)) (c .before .before .before .before .before .before .args .at) (c .before .before .before .before .before .before .pre) (by-rule (c .before .before .before .step .result) _ (c .before .before .before .step .ensures)) (ap ruled (c .before .next2 .given .1))))
 
 enum-known-next-3 : tie.Need-enum-known-next-3
 enum-known-next-3 c = search needs
@@ -41,17 +33,22 @@ enum-known-next-3 c = search needs
 refused-requires : tie.Need-refused-requires
 refused-requires c κs = search needs
 
-add-t23 : tie.Need-add-t23
-add-t23 c = omega (arith, refuses-fits (c .before .before .before .before .before .before .before .args .parser) (now (c .before .before .before .before .before .before .before .args .file)) (c .before .before .before .before .before .before .before .args .at) (c .before .before .before .before .before .before .before .pre) (far (c .before .before .before .before .before .before .before .args .parser) (now (c .before .before .before .before .before .before .before .args .file)) (c .before .before .before .before .before .before .before .args .at) (c .before .before .before .before .before .before .before .pre) (by-rule (c .before .before .before .before .step .result) _ (c .before .before .before .before .step .ensures)) (ap ruled (c .before .before .next3 .given .1))))
-
 returns : tie.Need-returns
-returns c = rw (far (c .before .before .before .before .before .before .before .args .parser) (now (c .before .before .before .before .before .before .before .args .file)) (c .before .before .before .before .before .before .before .args .at) (c .before .before .before .before .before .before .before .pre) (by-rule (c .before .before .before .before .step .result) _ (c .before .before .before .before .step .ensures)) (ap ruled (c .before .before .next .given .1)), c .moved .ensures ∙ moved-fits (c .before .before .before .before .before .before .before .args .at) (c .before .before .next .given .0 .1 .1 .0) (omega (arith, shown-fits (c .before .before .before .before .before .before .before .args .parser) (now (c .before .before .before .before .before .before .before .args .file)) (c .before .before .before .before .before .before .before .args .at) (c .before .before .before .before .before .before .before .pre) (far (c .before .before .before .before .before .before .before .args .parser) (now (c .before .before .before .before .before .before .before .args .file)) (c .before .before .before .before .before .before .before .args .at) (c .before .before .before .before .before .before .before .pre) (by-rule (c .before .before .before .before .step .result) _ (c .before .before .before .before .step .ensures)) (ap ruled (c .before .before .next .given .1))) .0)))
+returns c =
+    let a = c .before .before .before .before .before .before .before .args in
+    let st = far (a .parser) (now (a .file)) (a .parser .total) (c .before .before .before .before .before .before .before .pre) (by-rule (c .before .before .before .before .step .result) _ (c .before .before .before .before .step .ensures)) (ap ruled (c .before .before .next .given .1)) in
+    rw (st, c .in-file .ensures)
 
 returns-2 : tie.Need-returns-2
-returns-2 c = rw (far (c .before .before .before .before .before .before .args .parser) (now (c .before .before .before .before .before .before .args .file)) (c .before .before .before .before .before .before .args .at) (c .before .before .before .before .before .before .pre) (by-rule (c .before .before .before .step .result) _ (c .before .before .before .step .ensures)) (ap ruled (c .before .next2 .given .1)))
+returns-2 c =
+    let a = c .before .before .before .before .before .before .args in
+    rw (far (a .parser) (now (a .file)) (a .parser .total) (c .before .before .before .before .before .before .pre) (by-rule (c .before .before .before .step .result) _ (c .before .before .before .step .ensures)) (ap ruled (c .before .next2 .given .1)))
 
 returns-3 : tie.Need-returns-3
-returns-3 c = rw (far (c .before .before .before .before .before .before .before .args .parser) (now (c .before .before .before .before .before .before .before .args .file)) (c .before .before .before .before .before .before .before .args .at) (c .before .before .before .before .before .before .before .pre) (by-rule (c .before .before .before .before .step .result) _ (c .before .before .before .before .step .ensures)) (ap ruled (c .before .before .next3 .given .1)), c .refused .ensures)
+returns-3 c =
+    let a = c .before .before .before .before .before .before .before .args in
+    let st = far (a .parser) (now (a .file)) (a .parser .total) (c .before .before .before .before .before .before .before .pre) (by-rule (c .before .before .before .before .step .result) _ (c .before .before .before .before .step .ensures)) (ap ruled (c .before .before .next3 .given .1)) in
+    rw (st, c .refused .ensures)
 
 pub next-spec : {M : Type 1} → statement M
 next-spec =
@@ -62,13 +59,10 @@ next-spec =
     part-step-end
     step-requires
     enum-known-next
-    moved-requires
-    add-t19
+    in-file-requires
     enum-known-next-2
-    add-t21
     enum-known-next-3
     refused-requires
-    add-t23
     returns
     returns-2
     returns-3)

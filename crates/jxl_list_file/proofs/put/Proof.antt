@@ -1,4 +1,4 @@
-use mathlib.Core.Path.{_≡_, sym, ap, _∙_}
+use mathlib.Core.Path.{sym, ap, _∙_}
 use denote.Ref.{now}
 use Rattle.jxl_lines.specs.Lines.{text}
 use Rattle.jxl_lines.specs.Putting.{leaves}

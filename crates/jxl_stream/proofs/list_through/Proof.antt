@@ -5,11 +5,11 @@ use Rattle.jxl_stream.proofs.list_through.Statement.{statement}
 use Rattle.jxl_stream.proofs.list_through.Tie as tie
 
 abbrev Inv-loop : tie.InvT-loop
-Inv-loop fd buf₀ out₀ parser₀ joiner₀ base₀ from₀ upto₀ next₀ turns₀ buf out parser joiner base from upto next turns =
+Inv-loop fd buf₀ out₀ parser₀ joiner₀ from₀ upto₀ next₀ turns₀ buf out parser joiner from upto next turns =
     (length buf ≡ length buf₀) × (length out ≡ length out₀)
 
 abbrev μ-loop : tie.MeasureT-loop
-μ-loop fd buf₀ out₀ parser₀ joiner₀ base₀ from₀ upto₀ next₀ turns₀ buf out parser joiner base from upto next turns =
+μ-loop fd buf₀ out₀ parser₀ joiner₀ from₀ upto₀ next₀ turns₀ buf out parser joiner from upto next turns =
     turns
 
 new-requires : tie.Need-new-requires Inv-loop μ-loop
@@ -35,9 +35,6 @@ turn-requires c κs = search needs
 
 wrapping-add-usize-requires : tie.Need-wrapping-add-usize-requires Inv-loop μ-loop
 wrapping-add-usize-requires c κs = search needs
-
-wrapping-add-usize-requires-2 : tie.Need-wrapping-add-usize-requires-2 Inv-loop μ-loop
-wrapping-add-usize-requires-2 c κs = search needs
 
 follow-requires : tie.Need-follow-requires Inv-loop μ-loop
 follow-requires c κs = search needs
@@ -101,7 +98,6 @@ list-through-spec =
     part-requires
     turn-requires
     wrapping-add-usize-requires
-    wrapping-add-usize-requires-2
     follow-requires
     loop-less
     loop-again

@@ -1,10 +1,10 @@
 use mathlib.Core.Path.{sym, _∙_}
 use mathlib.Core.List.{append-nil}
 use denote.Ref.{now}
-use Rattle.jxl_list_turn.proofs.Putting.{put-nothing}
+use Rattle.jxl_long_way.proofs.Putting.{put-nothing}
 use borrow.Author.Needs.{needs}
-use Rattle.jxl_list_turn.proofs.put_held.Statement.{statement}
-use Rattle.jxl_list_turn.proofs.put_held.Tie as tie
+use Rattle.jxl_long_way.proofs.put_held.Statement.{statement}
+use Rattle.jxl_long_way.proofs.put_held.Tie as tie
 
 enum-told : tie.Need-enum-told
 enum-told c = search needs

@@ -1,9 +1,9 @@
-use mathlib.Core.Path.{_≡_, sym, ap, _∙_}
+use mathlib.Core.Path.{sym, ap, _∙_}
 use Rattle.jxl_joiner.specs.declared.MaybeEvent.{MaybeEvent}
 use Rattle.jxl_joiner.specs.declared.MaybeEvent.the-variants.{Some}
 use borrow.Author.Needs.{needs}
-use Rattle.jxl_list_turn.proofs.anew.Statement.{statement}
-use Rattle.jxl_list_turn.proofs.anew.Tie as tie
+use Rattle.jxl_long_way.proofs.anew.Statement.{statement}
+use Rattle.jxl_long_way.proofs.anew.Tie as tie
 
 enum-told : tie.Need-enum-told
 enum-told c = search needs

@@ -1,0 +1,2 @@
+mod Putting
+pub mod Going
