@@ -21,9 +21,9 @@ pub use jxl_fields::read_u64;
 pub use jxl_unpack::unpack_signed;
 pub use jxl_unpack::unpack_signed_u64;
 // Through the struct:
+pub use jxl_field_results::ResultF32;
+pub use jxl_field_results::ResultU64;
 pub use jxl_reader::Bitstream;
 pub use jxl_results::ResultBool;
-pub use jxl_results::ResultF32;
 pub use jxl_results::ResultU32;
-pub use jxl_results::ResultU64;
 pub use jxl_results::ResultUnit;

@@ -1,5 +1,6 @@
 // The fields made of bits: Enum and F16; and U32 and U64, which `jxl_u32` and `jxl_u64` read and this hands on. The rules are in
 // `jxl_field_rules`.
+use jxl_begin::begin;
 use jxl_bit_rules::FieldRefusal;
 use jxl_bit_rules::Moved;
 use jxl_bit_rules::ReadU32;
@@ -7,7 +8,6 @@ pub use jxl_field_rules::ReadF16;
 pub use jxl_field_rules::ReadU64;
 pub use jxl_field_rules::U32Specifier;
 use jxl_half::Widened;
-use jxl_reads::begin;
 use jxl_reads::read_bits;
 pub use jxl_u32::read_u32;
 pub use jxl_u64::read_u64;

@@ -13,7 +13,8 @@ use denote.Enum.Laws as EL
 use denote.Struct.Laws as LL
 use Rattle.jxl_bit_rules.specs.Told.{toldU32, toldBool, toldMoved}
 use Rattle.jxl_field_rules.specs.Told.{toldU64, toldF16}
-use Rattle.jxl_results.specs.Results.{u32At, u64At, boolAt, unitAt, f32At}
+use Rattle.jxl_results.specs.Results.{u32At, boolAt, unitAt}
+use Rattle.jxl_field_results.specs.Results.{u64At, f32At}
 use Rattle.jxl_reader.proofs.Reading.{Shape}
 use Rattle.jxl_bit_rules.proofs.Moved as G-unit
 use Rattle.jxl_bit_rules.proofs.Moved.Laws as G-unit′
@@ -35,16 +36,16 @@ use Rattle.jxl_results.proofs.ResultU32 as R-u32
 use Rattle.jxl_results.proofs.ResultU32.Laws as R-u32′
 use Rattle.jxl_field_rules.proofs.ReadU64 as G-u64
 use Rattle.jxl_field_rules.proofs.ReadU64.Laws as G-u64′
-use Rattle.jxl_results.proofs.SplitU64 as P-u64
-use Rattle.jxl_results.proofs.SplitU64.Laws as P-u64′
-use Rattle.jxl_results.proofs.ResultU64 as R-u64
-use Rattle.jxl_results.proofs.ResultU64.Laws as R-u64′
+use Rattle.jxl_field_results.proofs.SplitU64 as P-u64
+use Rattle.jxl_field_results.proofs.SplitU64.Laws as P-u64′
+use Rattle.jxl_field_results.proofs.ResultU64 as R-u64
+use Rattle.jxl_field_results.proofs.ResultU64.Laws as R-u64′
 use Rattle.jxl_field_rules.proofs.ReadF16 as G-f32
 use Rattle.jxl_field_rules.proofs.ReadF16.Laws as G-f32′
-use Rattle.jxl_results.proofs.SplitF32 as P-f32
-use Rattle.jxl_results.proofs.SplitF32.Laws as P-f32′
-use Rattle.jxl_results.proofs.ResultF32 as R-f32
-use Rattle.jxl_results.proofs.ResultF32.Laws as R-f32′
+use Rattle.jxl_field_results.proofs.SplitF32 as P-f32
+use Rattle.jxl_field_results.proofs.SplitF32.Laws as P-f32′
+use Rattle.jxl_field_results.proofs.ResultF32 as R-f32
+use Rattle.jxl_field_results.proofs.ResultF32.Laws as R-f32′
 
 module _ {M : Type 1} (𝓤 : URA M) (H : Heap 𝓤) (A : Atoms 𝓤) (W : Given 𝓤 H A) where
   abbrev pub unit : Shape 𝓤 H A

@@ -6,8 +6,10 @@ use Rattle.jxl_base.proofs.OneAnswer.{one-named}
 use Rattle.jxl_bit_rules.specs.Answer.{Answer, Field}
 use Rattle.jxl_bit_rules.specs.Readers as R
 use Rattle.jxl_field_rules.specs.Fields as F
-use Rattle.jxl_results.proofs.Unique.{one-u32, one-u64, one-bool, one-unit, one-f32}
-use Rattle.jxl_results.specs.Results.{u32At, u64At, boolAt, unitAt, f32At}
+use Rattle.jxl_results.proofs.Unique.{one-u32, one-bool, one-unit}
+use Rattle.jxl_field_results.proofs.Unique.{one-u64, one-f32}
+use Rattle.jxl_results.specs.Results.{u32At, boolAt, unitAt}
+use Rattle.jxl_field_results.specs.Results.{u64At, f32At}
 use Rattle.jxl_results.specs.Theorems.{OneAt}
 use Rattle.jxl_reader.specs.Theorems.{OneNew, OneNumReadBits, OneThrough, OnePeekBits, OneConsumeBits, OneReadBits, OneSkipBits, OneZeroPadToByte, OneReadU32, OneReadU64, OneReadBool, OneReadF16AsF32, OneReadEnum}
 use Rattle.jxl_reader.specs.declared.Bitstream.{Bitstream}

@@ -8,7 +8,8 @@ use Rattle.jxl_bit_rules.specs.Answer.{Answer, Field}
 use Rattle.jxl_bit_rules.specs.Readers as R
 use Rattle.jxl_field_rules.specs.Fields as F
 use Rattle.jxl_field_rules.specs.declared.U32Specifier.{U32Specifier}
-use Rattle.jxl_results.specs.Results.{u32At, u64At, boolAt, unitAt, f32At}
+use Rattle.jxl_results.specs.Results.{u32At, boolAt, unitAt}
+use Rattle.jxl_field_results.specs.Results.{u64At, f32At}
 use Rattle.jxl_reader.specs.Through.{Made, Through}
 use Rattle.jxl_reader.specs.declared.Bitstream.{Bitstream}
 

@@ -1,14 +1,15 @@
 // The fields through a struct that holds the slice and the bit position. Each call is the call by position, thinly.
+use jxl_field_results::ResultF32;
+use jxl_field_results::ResultU64;
 use jxl_fields::U32Specifier;
 use jxl_results::ResultBool;
-use jxl_results::ResultF32;
 use jxl_results::ResultU32;
-use jxl_results::ResultU64;
 use jxl_results::ResultUnit;
 ghost use mathlib.Core.Path.{_≡_};
 ghost use Rattle.jxl_bit_rules.specs.Readers as R;
 ghost use Rattle.jxl_field_rules.specs.Fields as F;
-ghost use Rattle.jxl_results.specs.Results.{u32At, u64At, boolAt, unitAt, f32At};
+ghost use Rattle.jxl_results.specs.Results.{u32At, boolAt, unitAt};
+ghost use Rattle.jxl_field_results.specs.Results.{u64At, f32At};
 ghost use Rattle.jxl_reader.specs.Through.{Made, Through};
 
 // A slice, and a bit position in it.
@@ -97,7 +98,7 @@ impl<'a> Bitstream<'a> {
         ensures { λ r. ⌜ Through u64At F.u64 (now (self .entry)) (now (self .exit)) r ⌝ }
     {
         let answer = jxl_fields::read_u64(self.bytes, self.at);
-        let split = jxl_results::split_u64(answer);
+        let split = jxl_field_results::split_u64(answer);
         self.at = split.at;
         split.result
     }
@@ -117,7 +118,7 @@ impl<'a> Bitstream<'a> {
         ensures { λ r. ⌜ Through f32At F.f16 (now (self .entry)) (now (self .exit)) r ⌝ }
     {
         let answer = jxl_fields::read_f16_as_f32(self.bytes, self.at);
-        let split = jxl_results::split_f32(answer);
+        let split = jxl_field_results::split_f32(answer);
         self.at = split.at;
         split.result
     }

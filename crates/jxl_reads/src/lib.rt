@@ -1,4 +1,5 @@
 // Reading bits at a position of a lent slice: the position goes in and comes back by value. The rules are in `jxl_bit_rules`.
+use jxl_begin::begin;
 use jxl_bit_rules::FieldRefusal;
 use jxl_bit_rules::Moved;
 use jxl_bit_rules::ReadBool;
@@ -7,25 +8,7 @@ ghost use mathlib.Core.Path.{_≡_};
 ghost use Rattle.jxl_bit_rules.specs.Bits.{bits};
 ghost use Rattle.jxl_bit_rules.specs.Readers as F;
 ghost use Rattle.jxl_bit_rules.specs.Inside.{Ready};
-ghost use Rattle.jxl_bit_rules.specs.Told.{toldU32, toldBool, toldMoved};
-
-// What comes before every reading: 8, 7, then the position moved to the end.
-pub fn begin(s: &[u8], at: usize, wide: bool) -> Moved
-    ensures { λ r. ⌜ toldMoved r ≡ F.begin wide (now (s .entry)) at ⌝ }
-{
-    if 0x1fff_ffff_ffff_ffff < s.len() {
-        return Moved::Refused(FieldRefusal::TooLong, at);
-    }
-    if wide {
-        return Moved::Refused(FieldRefusal::Width, at);
-    }
-    let end = 8 * s.len();
-    if at <= end {
-        Moved::To(at)
-    } else {
-        Moved::To(end)
-    }
-}
+ghost use Rattle.jxl_bit_rules.specs.Told.{toldU32, toldBool};
 
 // The `n` bits at `at`, those beyond the end as 0.
 fn look(s: &[u8], at: usize, n: usize) -> u32

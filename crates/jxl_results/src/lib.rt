@@ -3,20 +3,12 @@ use jxl_bit_rules::FieldRefusal;
 use jxl_bit_rules::Moved;
 use jxl_bit_rules::ReadBool;
 use jxl_bit_rules::ReadU32;
-use jxl_field_rules::ReadF16;
-use jxl_field_rules::ReadU64;
 ghost use mathlib.Core.Path.{_≡_};
 ghost use Rattle.jxl_bit_rules.specs.Told.{toldU32, toldBool, toldMoved};
-ghost use Rattle.jxl_field_rules.specs.Told.{toldU64, toldF16};
-ghost use Rattle.jxl_results.specs.Results.{u32At, u64At, boolAt, unitAt, f32At};
+ghost use Rattle.jxl_results.specs.Results.{u32At, boolAt, unitAt};
 
 pub enum ResultU32 {
     Value(u32),
-    Refused(FieldRefusal),
-}
-
-pub enum ResultU64 {
-    Value(u64),
     Refused(FieldRefusal),
 }
 
@@ -30,22 +22,10 @@ pub enum ResultUnit {
     Refused(FieldRefusal),
 }
 
-pub enum ResultF32 {
-    Value(f32),
-    UnexpectedEof,
-    InvalidFloat,
-    TooLong,
-}
-
 // A result, and the position after the call.
 pub struct SplitU32 {
     pub at: usize,
     pub result: ResultU32,
-}
-
-pub struct SplitU64 {
-    pub at: usize,
-    pub result: ResultU64,
 }
 
 pub struct SplitBool {
@@ -56,11 +36,6 @@ pub struct SplitBool {
 pub struct SplitUnit {
     pub at: usize,
     pub result: ResultUnit,
-}
-
-pub struct SplitF32 {
-    pub at: usize,
-    pub result: ResultF32,
 }
 
 pub fn split_u32(answer: ReadU32) -> SplitU32
@@ -74,21 +49,6 @@ pub fn split_u32(answer: ReadU32) -> SplitU32
         ReadU32::Refused(refusal, at) => SplitU32 {
             at,
             result: ResultU32::Refused(refusal),
-        },
-    }
-}
-
-pub fn split_u64(answer: ReadU64) -> SplitU64
-    ensures { λ r. ⌜ u64At (r .result) (r .at) ≡ toldU64 answer ⌝ }
-{
-    match answer {
-        ReadU64::Value(v, at) => SplitU64 {
-            at,
-            result: ResultU64::Value(v),
-        },
-        ReadU64::Refused(refusal, at) => SplitU64 {
-            at,
-            result: ResultU64::Refused(refusal),
         },
     }
 }
@@ -119,29 +79,6 @@ pub fn split_unit(answer: Moved) -> SplitUnit
         Moved::Refused(refusal, at) => SplitUnit {
             at,
             result: ResultUnit::Refused(refusal),
-        },
-    }
-}
-
-pub fn split_f32(answer: ReadF16) -> SplitF32
-    ensures { λ r. ⌜ f32At (r .result) (r .at) ≡ toldF16 answer ⌝ }
-{
-    match answer {
-        ReadF16::Value(x, at) => SplitF32 {
-            at,
-            result: ResultF32::Value(x),
-        },
-        ReadF16::UnexpectedEof(at) => SplitF32 {
-            at,
-            result: ResultF32::UnexpectedEof,
-        },
-        ReadF16::InvalidFloat(at) => SplitF32 {
-            at,
-            result: ResultF32::InvalidFloat,
-        },
-        ReadF16::TooLong(at) => SplitF32 {
-            at,
-            result: ResultF32::TooLong,
         },
     }
 }

@@ -3,8 +3,8 @@
 use mathlib.Core.Path.{ap, sym}
 use borrow.Author.Needs.{needs}
 use Rattle.jxl_field_rules.specs.Told.{toldU64}
-use Rattle.jxl_results.proofs.split_u64.Statement.{statement}
-use Rattle.jxl_results.proofs.split_u64.Tie as tie
+use Rattle.jxl_field_results.proofs.split_u64.Statement.{statement}
+use Rattle.jxl_field_results.proofs.split_u64.Tie as tie
 
 enum-known-answer : tie.Need-enum-known-answer
 enum-known-answer c = search needs

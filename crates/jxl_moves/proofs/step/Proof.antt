@@ -6,8 +6,8 @@ use borrow.Author.Needs.{needs}
 use borrow.Author.Tests.{le-leb, lt-leb}
 use Rattle.jxl_bit_rules.specs.Bits.{end}
 use Rattle.jxl_bit_rules.specs.Readers.{move}
-use Rattle.jxl_bits.proofs.step.Statement.{statement}
-use Rattle.jxl_bits.proofs.step.Tie as tie
+use Rattle.jxl_moves.proofs.step.Statement.{statement}
+use Rattle.jxl_moves.proofs.step.Tie as tie
 
 mul-if1 : tie.Need-mul-if1
 mul-if1 c = search needs

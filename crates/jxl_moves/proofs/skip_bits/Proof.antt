@@ -8,8 +8,8 @@ use borrow.Author.Needs.{needs}
 use Rattle.jxl_bit_rules.specs.Readers.{skip}
 use Rattle.jxl_bit_rules.specs.Told.{toldMoved}
 use Rattle.jxl_bit_rules.proofs.Parts.{begun, ready}
-use Rattle.jxl_bits.proofs.skip_bits.Statement.{statement}
-use Rattle.jxl_bits.proofs.skip_bits.Tie as tie
+use Rattle.jxl_moves.proofs.skip_bits.Statement.{statement}
+use Rattle.jxl_moves.proofs.skip_bits.Tie as tie
 
 begin-requires : tie.Need-begin-requires
 begin-requires c κs = search needs

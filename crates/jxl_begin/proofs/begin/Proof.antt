@@ -4,8 +4,8 @@ use native.Mathlib.Nat.{le-of-lt, min-eq-left, min-eq-right}
 use borrow.Author.Needs.{needs}
 use borrow.Author.Tests.{lt-ltb, le-ltb}
 use Rattle.jxl_bit_rules.specs.Readers.{begin}
-use Rattle.jxl_reads.proofs.begin.Statement.{statement}
-use Rattle.jxl_reads.proofs.begin.Tie as tie
+use Rattle.jxl_begin.proofs.begin.Statement.{statement}
+use Rattle.jxl_begin.proofs.begin.Tie as tie
 
 returns : tie.Need-returns
 unfolding begin

@@ -6,8 +6,8 @@ use borrow.Author.Needs.{needs}
 use Rattle.jxl_bit_rules.specs.Readers.{over, consume}
 use Rattle.jxl_bit_rules.specs.Told.{toldMoved}
 use Rattle.jxl_bit_rules.proofs.Parts.{ready}
-use Rattle.jxl_bits.proofs.consume_bits.Statement.{statement}
-use Rattle.jxl_bits.proofs.consume_bits.Tie as tie
+use Rattle.jxl_moves.proofs.consume_bits.Statement.{statement}
+use Rattle.jxl_moves.proofs.consume_bits.Tie as tie
 
 begin-requires : tie.Need-begin-requires
 begin-requires c κs = search needs
