@@ -1,5 +1,6 @@
 // What the drivers of the bench share: the packets of a file, and the loop over its steps.
 use jxl_container::ContainerParser;
+use jxl_container::FileEvent;
 use jxl_container::ParseEvent;
 use jxl_container::StepResult;
 use jxl_slices::part;
@@ -17,8 +18,9 @@ pub fn packet_end(end: usize, packet: usize, len: usize) -> usize {
 }
 
 // What an event adds to the sum: 1, and for a payload its length.
-pub fn weight(event: ParseEvent) -> u64 {
-    match event {
+pub fn weight(event: FileEvent) -> u64 {
+    let shown = event.event;
+    match shown {
         ParseEvent::Codestream { at: _, len } => std::num::wrapping_add_u64(len as u64, 1),
         ParseEvent::AuxBoxData { ty: _, at: _, len } => std::num::wrapping_add_u64(len as u64, 1),
         ParseEvent::BitstreamKind(_) => 1,

@@ -36,7 +36,7 @@ pub extern "C" fn bench_turns(file: &[u8], packet: usize, out: &mut [u8], most: 
         turns += 1;
         let from = place(written, out.len());
         let input = jxl_slices::part(file, at, end);
-        let after = jxl_list_turn::turn(parser, joiner, at, input, &mut out[from..]);
+        let after = jxl_list_turn::turn(parser, joiner, input, &mut out[from..]);
         at = std::num::wrapping_add_usize(at, after.consumed);
         written = std::num::wrapping_add_usize(written, after.written);
         let why = after.end;

@@ -1,6 +1,6 @@
 // Lists the boxes of a small file that comes in two packets, as a user of the container would.
 use jxl_container::ContainerParser;
-use jxl_container::ParseEvent;
+use jxl_container::FileEvent;
 use jxl_container::StepResult;
 use jxl_lines::Line;
 use jxl_listing::Put;
@@ -12,10 +12,12 @@ struct Fed {
     consumed: usize,
 }
 
-// Prints the event's line.
-fn print(event: ParseEvent) {
+// Prints the event's line, its payload at its place in the file.
+fn print(event: FileEvent) {
     let mut out = [0u8; 56];
-    if let Put::Written(n) = jxl_listing::put_line(&mut out, 0, Line::Shown(event)) {
+    let placed = event.in_file();
+    let shown = placed.event;
+    if let Put::Written(n) = jxl_listing::put_line(&mut out, 0, Line::Shown(shown)) {
         io::write_all(libc::STDOUT_FILENO, &out[..n]);
     }
 }

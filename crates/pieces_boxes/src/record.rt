@@ -1,10 +1,11 @@
-// A record written as text: a letter for its state, the bytes left, the codestream boxes so far.
+// A record written as text: a letter for its state, the bytes left, the codestream boxes so far, the total.
 use jxl_headers::BytesLeft;
 use jxl_record::BitstreamKind;
-use jxl_record::ContainerParser;
+use jxl_record::BoxParser;
 use jxl_record::DetectState;
 use jxl_record::JxlpIndexState;
 use jxl_refusals::BoxRefusal;
+use jxl_totals::ContainerParser;
 
 // `e` is to the end, else a number of bytes.
 fn bytes_left(line: &[u8], at: usize) -> BytesLeft {
@@ -57,14 +58,30 @@ fn state(letter: u8, left: BytesLeft) -> DetectState {
     }
 }
 
-// The record whose three words stand behind these places.
-pub fn parser(line: &[u8], state_at: usize, left_at: usize, boxes_at: usize) -> ContainerParser {
+// The rules' own record, whose three words stand behind these places.
+fn box_parser(line: &[u8], state_at: usize, left_at: usize, boxes_at: usize) -> BoxParser {
     let left = bytes_left(line, std::num::wrapping_add_usize(left_at, 1));
-    ContainerParser {
+    BoxParser {
         state: state(
             replay_text::byte_at(line, std::num::wrapping_add_usize(state_at, 1)),
             left,
         ),
         jxlp: boxes(line, std::num::wrapping_add_usize(boxes_at, 1)),
+    }
+}
+
+// The record whose four words stand behind these places. Its newest header is at half its total.
+pub fn parser(
+    line: &[u8],
+    state_at: usize,
+    left_at: usize,
+    boxes_at: usize,
+    total_at: usize,
+) -> ContainerParser {
+    let total = replay_text::parse_decimal(line, std::num::wrapping_add_usize(total_at, 1)).value;
+    ContainerParser {
+        boxes: box_parser(line, state_at, left_at, boxes_at),
+        total,
+        header: total / 2,
     }
 }

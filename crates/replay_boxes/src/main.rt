@@ -1,6 +1,5 @@
 // Replays the Rust's stored answers on boxes: each file of the list is fed in the packets of each of its lines, and every
 // event, count and refusal is compared with the line, refusals 10 to 19 as 1. Prints the numbers of the first lines that differ, then the counts.
-use box_answers::feed;
 
 // The lines passed, the length of the newest file, the feedings compared, the answers in them, and the feedings that differ.
 struct Tally {
@@ -71,7 +70,7 @@ fn compare(line: &[u8], file: &[u8], tally: Tally) -> Tally {
     let told = jxl_slices::part(line, std::num::wrapping_add_usize(equals, 2), line.len());
     let mut out = [0u8; 1024];
     let mut answers = [0u8; 1024];
-    let n = feed::whole(&mut answers, file, cuts);
+    let n = box_answers::whole(&mut answers, file, cuts);
     let m = merged(&mut out, jxl_slices::part(&answers, 0, n));
     let mut differ = tally.differ;
     if !check::same(jxl_slices::part(&out, 0, m), told) {
@@ -92,7 +91,7 @@ fn take_line(file: &mut [u8], line: &[u8], tally: Tally) -> Tally {
     if replay_text::byte_at(line, 0) == b'f' {
         return Tally {
             lines: std::num::wrapping_add_u64(tally.lines, 1),
-            file_len: box_answers::put_file(file, line, 2),
+            file_len: box_lines::put_file(file, line, 2),
             feedings: tally.feedings,
             answers: tally.answers,
             differ: tally.differ,

@@ -1,14 +1,13 @@
 -- `feed` is safe and ends: each turn but the last takes one event of those that the input still has.
 -- Assumes nothing.
-use mathlib.Core.Path.{ap}
+use mathlib.Core.Path.{sym, ap, _∙_}
 use Prim.Native.Nat.{_≤_}
 use native.Mathlib.Omega.{arith}
 use lib.ListN.{length}
 use denote.Ref.{now}
 use borrow.Author.Needs.{needs}
-use Rattle.jxl_payloads.proofs.Ruled.{ruled, by-rule}
-use Rattle.jxl_grammar.specs.Feeding.{Seen}
-use Rattle.jxl_list_rules.proofs.Text.{count, far, shown-fits, wants-fits, refuses-fits, taken-shown}
+use Rattle.jxl_counts.proofs.Ruled.{ruled, by-rule}
+use Rattle.example_boxes.proofs.Ending.{count, fits, fewer}
 use Rattle.example_boxes.proofs.feed.Statement.{statement}
 use Rattle.example_boxes.proofs.feed.Tie as tie
 
@@ -43,22 +42,22 @@ add-at : tie.Need-add-at Inv-loop μ-loop
 add-at c =
     let l = c .before .before .before .before .before .before .loop in
     let f = now (c .before .before .before .before .before .before .before .before .args .input) in
-    let s = far (l .p) f (l .at) (l .inv) (by-rule (c .before .before .before .before .step .result) _ (c .before .before .before .before .step .ensures)) (ap ruled (c .before .before .next .given .1)) in
-    omega (arith, shown-fits (l .p) f (l .at) (l .inv) s .1)
+    let s = sym (ap ruled (c .before .before .next .given .1)) ∙ by-rule (c .before .before .before .before .step .result) _ (c .before .before .before .before .step .ensures) in
+    omega (arith, fits (l .p) f (l .at) (l .inv) s)
 
 loop-less : tie.Need-loop-less Inv-loop μ-loop
 loop-less c =
     let l = c .before .before .before .before .before .before .loop in
     let f = now (c .before .before .before .before .before .before .before .before .args .input) in
-    let s = far (l .p) f (l .at) (l .inv) (by-rule (c .before .before .before .before .step .result) _ (c .before .before .before .before .step .ensures)) (ap ruled (c .before .before .next .given .1)) in
-    omega (arith, ap (λ (x : Seen). length (x .shown)) (taken-shown (l .p) f (l .at) s))
+    let s = sym (ap ruled (c .before .before .next .given .1)) ∙ by-rule (c .before .before .before .before .step .result) _ (c .before .before .before .before .step .ensures) in
+    omega (arith, fewer (l .p) f (l .at) (l .inv) s)
 
 loop-again : tie.Need-loop-again Inv-loop μ-loop
 loop-again c =
     let l = c .before .before .before .before .before .before .loop in
     let f = now (c .before .before .before .before .before .before .before .before .args .input) in
-    let s = far (l .p) f (l .at) (l .inv) (by-rule (c .before .before .before .before .step .result) _ (c .before .before .before .before .step .ensures)) (ap ruled (c .before .before .next .given .1)) in
-    shown-fits (l .p) f (l .at) (l .inv) s .1
+    let s = sym (ap ruled (c .before .before .next .given .1)) ∙ by-rule (c .before .before .before .before .step .result) _ (c .before .before .before .before .step .ensures) in
+    fits (l .p) f (l .at) (l .inv) s
 
 enum-known-next-2 : tie.Need-enum-known-next-2 Inv-loop μ-loop
 enum-known-next-2 c = search needs
@@ -67,15 +66,15 @@ add-t18 : tie.Need-add-t18 Inv-loop μ-loop
 add-t18 c =
     let l = c .before .before .before .before .before .loop in
     let f = now (c .before .before .before .before .before .before .before .args .input) in
-    let s = far (l .p) f (l .at) (l .inv) (by-rule (c .before .before .before .step .result) _ (c .before .before .before .step .ensures)) (ap ruled (c .before .next2 .given .1)) in
-    omega (arith, wants-fits (l .p) f (l .at) (l .inv) s)
+    let s = sym (ap ruled (c .before .next2 .given .1)) ∙ by-rule (c .before .before .before .step .result) _ (c .before .before .before .step .ensures) in
+    omega (arith, fits (l .p) f (l .at) (l .inv) s)
 
 returns : tie.Need-returns Inv-loop μ-loop
 returns c =
     let l = c .before .before .before .before .before .loop in
     let f = now (c .before .before .before .before .before .before .before .args .input) in
-    let s = far (l .p) f (l .at) (l .inv) (by-rule (c .before .before .before .step .result) _ (c .before .before .before .step .ensures)) (ap ruled (c .before .next2 .given .1)) in
-    wants-fits (l .p) f (l .at) (l .inv) s
+    let s = sym (ap ruled (c .before .next2 .given .1)) ∙ by-rule (c .before .before .before .step .result) _ (c .before .before .before .step .ensures) in
+    fits (l .p) f (l .at) (l .inv) s
 
 enum-known-next-3 : tie.Need-enum-known-next-3 Inv-loop μ-loop
 enum-known-next-3 c = search needs
@@ -84,15 +83,15 @@ add-t19 : tie.Need-add-t19 Inv-loop μ-loop
 add-t19 c =
     let l = c .before .before .before .before .before .loop in
     let f = now (c .before .before .before .before .before .before .before .args .input) in
-    let s = far (l .p) f (l .at) (l .inv) (by-rule (c .before .before .before .step .result) _ (c .before .before .before .step .ensures)) (ap ruled (c .before .next3 .given .1)) in
-    omega (arith, refuses-fits (l .p) f (l .at) (l .inv) s)
+    let s = sym (ap ruled (c .before .next3 .given .1)) ∙ by-rule (c .before .before .before .step .result) _ (c .before .before .before .step .ensures) in
+    omega (arith, fits (l .p) f (l .at) (l .inv) s)
 
 returns-2 : tie.Need-returns-2 Inv-loop μ-loop
 returns-2 c =
     let l = c .before .before .before .before .before .loop in
     let f = now (c .before .before .before .before .before .before .before .args .input) in
-    let s = far (l .p) f (l .at) (l .inv) (by-rule (c .before .before .before .step .result) _ (c .before .before .before .step .ensures)) (ap ruled (c .before .next3 .given .1)) in
-    refuses-fits (l .p) f (l .at) (l .inv) s
+    let s = sym (ap ruled (c .before .next3 .given .1)) ∙ by-rule (c .before .before .before .step .result) _ (c .before .before .before .step .ensures) in
+    fits (l .p) f (l .at) (l .inv) s
 
 pub feed-spec : {M : Type 1} → statement M
 feed-spec =

@@ -6,9 +6,12 @@ use lib.Seq.{length-take-le}
 use borrow.Author.Needs.{needs}
 use Rattle.jxl_lines.specs.Putting.{leaves}
 use Rattle.jxl_lines.specs.declared.Put.{Put}
-use Rattle.jxl_list_turn.proofs.Putting.{put-was}
+use Rattle.jxl_lines.proofs.Putting.{put-within}
 use Rattle.example_boxes.proofs.print.Statement.{statement}
 use Rattle.example_boxes.proofs.print.Tie as tie
+
+in-file-requires : tie.Need-in-file-requires
+in-file-requires c κs = search needs
 
 slice-aggregate-put-line : tie.Need-slice-aggregate-put-line
 slice-aggregate-put-line c = search needs
@@ -21,13 +24,13 @@ enum-known-n c = search needs
 
 array-share-prefix-out : tie.Need-array-share-prefix-out
 array-share-prefix-out c =
-    let put = put-was _ 0 _ _ (ap (λ (r : Put). leaves r (c .before .before .before .before .put-line .last .0)) (sym (c .before .n .given .1)) ∙ c .before .before .before .before .put-line .ensures) in
-    omega (arith, put .0, put .1)
+    let put = put-within _ 0 _ (ap (λ (r : Put). leaves r (c .before .before .before .before .put-line .last .0)) (sym (c .before .n .given .1)) ∙ c .before .before .before .before .put-line .ensures) in
+    omega (arith, put)
 
 slice-aggregate-write-all : tie.Need-slice-aggregate-write-all
 slice-aggregate-write-all c =
-    let put = put-was _ 0 _ _ (ap (λ (r : Put). leaves r (c .before .before .before .before .before .put-line .last .0)) (sym (c .before .before .n .given .1)) ∙ c .before .before .before .before .before .put-line .ensures) in
-    sym (length-take-le _ _ (omega (arith, put .0, put .1)))
+    let put = put-within _ 0 _ (ap (λ (r : Put). leaves r (c .before .before .before .before .before .put-line .last .0)) (sym (c .before .before .n .given .1)) ∙ c .before .before .before .before .before .put-line .ensures) in
+    sym (length-take-le _ _ (omega (arith, put)))
 
 write-all-requires : tie.Need-write-all-requires
 write-all-requires c κs = search needs
@@ -45,6 +48,7 @@ pub print-spec : {M : Type 1} → statement M
 print-spec =
     tie.close
     (tie.spec
+    in-file-requires
     slice-aggregate-put-line
     put-line-requires
     enum-known-n

@@ -37,13 +37,13 @@ use denote.Triple.Spec.{Meets, tripleOf}
 use denote.Triple.Table.{entered, cited}
 use denote.Triple.Walked.{Stays, stay-none-slice, walkOf, goes-none-slice, Walks, ends-at, walked, walk-meets}
 use denote.Exit.{yes}
-use Rattle.jxl_record.specs.Record.{fresh}
-use Rattle.jxl_record.specs.declared.ContainerParser.{ContainerParser}
-use Rattle.jxl_record.proofs.ContainerParser as P
-use Rattle.jxl_record.proofs.ContainerParser.Laws as P′
-use Rattle.jxl_record.proofs.ContainerParser.new.Symbol as new-def
-use Rattle.jxl_record.proofs.ContainerParser.new.Symbol.{name as #jxl-record·new}
-use Rattle.jxl_record.proofs.ContainerParser.new.Met as new-thm
+use Rattle.jxl_totals.specs.Step.{fresh}
+use Rattle.jxl_totals.specs.declared.ContainerParser.{ContainerParser}
+use Rattle.jxl_totals.proofs.ContainerParser as P
+use Rattle.jxl_totals.proofs.ContainerParser.Laws as P′
+use Rattle.jxl_totals.proofs.ContainerParser.new.Symbol as new-def
+use Rattle.jxl_totals.proofs.ContainerParser.new.Symbol.{name as #jxl-totals·new}
+use Rattle.jxl_totals.proofs.ContainerParser.new.Met as new-thm
 use Rattle.jxl_feed.specs.declared.Fed.{Fed}
 use Rattle.jxl_feed.proofs.Fed as S
 use Rattle.jxl_feed.proofs.Fed.Laws as S′
@@ -112,7 +112,7 @@ module _ {M : Type 1} (𝓤 : URA M) (H : Heap 𝓤) (A : Atoms 𝓤) (W : Given
       suffices ! _ (ends-at 𝓤 H A this.ended stayed (this.clauses 𝓤 H A mem run) W (((κ, (κ′, tt)), (q, (q′, tt)), bounds, args, vals), tt) vunit tt (tt, (tt, tt)) (tt, (tt, tt))) $ quiet ! $
       split ! $ move ! (0 ∷ 2 ∷ []) $ join ! $ frame ! $ move ! (2 ∷ 0 ∷ []) $ fjoin ! $ move ! (1 ∷ 0 ∷ []) $ fjoin ! $ frame ! $ feqI ! (List Val) (vunit ∷ []) (vunit ∷ []) refl $ done !
 
-  module _ (C : Calls 𝓤 H) (Λ : Loops 𝓤 H) (fm : FmC 𝓤 H (W .laws) C) (known-new : Triple 𝓤 (C #jxl-record·new) (New 𝓤 H A mem run)) (known-feed : Triple 𝓤 (C #jxl-feed·feed-bytes) (Feed 𝓤 H A mem run)) (known-print : Triple 𝓤 (C #example-lent·print) (Print 𝓤 H A mem run)) where
+  module _ (C : Calls 𝓤 H) (Λ : Loops 𝓤 H) (fm : FmC 𝓤 H (W .laws) C) (known-new : Triple 𝓤 (C #jxl-totals·new) (New 𝓤 H A mem run)) (known-feed : Triple 𝓤 (C #jxl-feed·feed-bytes) (Feed 𝓤 H A mem run)) (known-print : Triple 𝓤 (C #example-lent·print) (Print 𝓤 H A mem run)) where
     walk : Is (ShrSlice (named 0) κ u8) a (bytes a ∷ []) → Is (ShrSlice (named 1) κ′ u8) z (bytes z ∷ []) → ent 𝓤 (onEntry 𝓤 H A this.signature (κ, (κ′, tt)) (q, (q′, tt)) args vals) (WpFn 𝓤 H C Λ code.function (bytes a ∷ bytes z ∷ []) Post′)
     walk p p′ =
         qed W ((‵ (flft κ q) ⊛ ‵ (flft κ′ q′) ⊛ ‵ ftrue) ∷ ‵ (owns (ShrSlice (named 0) κ u8 ∷ ShrSlice (named 1) κ′ u8 ∷ []) args vals) ∷ []) ∵ enter ! C Λ code.function (bytes a ∷ bytes z ∷ []) _ $
@@ -138,12 +138,12 @@ module _ {M : Type 1} (𝓤 : URA M) (H : Heap 𝓤) (A : Atoms 𝓤) (W : Given
         keep ! (2 ∷ 0 ∷ 3 ∷ 1 ∷ []) $ by ! exits))))))))))))))
 
 module _ {M : Type 1} (𝓤 : URA M) (H : Heap 𝓤) (A : Atoms 𝓤) (W : Given 𝓤 H A) (mem : Memory → SProp 𝓤) (run : Routine → Fun 𝓤) where
-  walks : (C : Calls 𝓤 H) (Λ : Loops 𝓤 H) → FmC 𝓤 H (W .laws) C → Triple 𝓤 (C #jxl-record·new) (New 𝓤 H A mem run) → Triple 𝓤 (C #jxl-feed·feed-bytes) (Feed 𝓤 H A mem run) → Triple 𝓤 (C #example-lent·print) (Print 𝓤 H A mem run)
+  walks : (C : Calls 𝓤 H) (Λ : Loops 𝓤 H) → FmC 𝓤 H (W .laws) C → Triple 𝓤 (C #jxl-totals·new) (New 𝓤 H A mem run) → Triple 𝓤 (C #jxl-feed·feed-bytes) (Feed 𝓤 H A mem run) → Triple 𝓤 (C #example-lent·print) (Print 𝓤 H A mem run)
       → Walks 𝓤 H A this.ended stayed (WpFn 𝓤 H C Λ code.function) (this.clauses 𝓤 H A mem run)
   walks C Λ fm known-new known-feed known-print = walked 𝓤 H A this.ended stayed (this.clauses 𝓤 H A mem run) (WpFn 𝓤 H C Λ code.function) (λ κs. (slice-vals, (slice-vals, tt))) (λ κs. (shr-slice-tells (named 0) (κs .0) u8, (shr-slice-tells (named 1) (κs .1 .0) u8, tt)))
       (λ κs qs bounds a _ are. via 𝓤 _ (fst∗ 𝓤 _ (emp 𝓤)) (walk 𝓤 H A W mem run (κs .0) (κs .1 .0) (qs .0) (qs .1 .0) bounds (a .0) (a .1 .0) C Λ fm known-new known-feed known-print (are .0) (are .1 .0)))
 
-meets : {M : Type 1} (𝓤 : URA M) (H : Heap 𝓤) (A : Atoms 𝓤) (W : Given 𝓤 H A) (mem : Memory → SProp 𝓤) (run : Routine → Fun 𝓤) (𝓣 : Tables 𝓤 H) → Triple 𝓤 (𝓣 .C #jxl-record·new) (New 𝓤 H A mem run) → Triple 𝓤 (𝓣 .C #jxl-feed·feed-bytes) (Feed 𝓤 H A mem run) → Triple 𝓤 (𝓣 .C #example-lent·print) (Print 𝓤 H A mem run)
+meets : {M : Type 1} (𝓤 : URA M) (H : Heap 𝓤) (A : Atoms 𝓤) (W : Given 𝓤 H A) (mem : Memory → SProp 𝓤) (run : Routine → Fun 𝓤) (𝓣 : Tables 𝓤 H) → Triple 𝓤 (𝓣 .C #jxl-totals·new) (New 𝓤 H A mem run) → Triple 𝓤 (𝓣 .C #jxl-feed·feed-bytes) (Feed 𝓤 H A mem run) → Triple 𝓤 (𝓣 .C #example-lent·print) (Print 𝓤 H A mem run)
     → Meets 𝓤 H A this.signature (WpFn 𝓤 H (𝓣 .C) (𝓣 .Λ) code.function) (this.spec 𝓤 H A mem run)
 meets 𝓤 H A W mem run 𝓣 known-new known-feed known-print = walk-meets 𝓤 H A this.ended stayed W (goes-none-slice 𝓤 H A W 2 (0 ∷ []) tt (plain (λ _. u8)) yes, (goes-none-slice 𝓤 H A W 2 (1 ∷ []) tt (plain (λ _. u8)) yes, tt)) (this.clauses 𝓤 H A mem run) (WpFn 𝓤 H (𝓣 .C) (𝓣 .Λ) code.function) (WpFn-mono 𝓤 H (W .laws) 𝓣 code.function)
     (walks 𝓤 H A W mem run (𝓣 .C) (𝓣 .Λ) (fmOf 𝓤 H (W .laws) 𝓣) known-new known-feed known-print)
@@ -154,6 +154,6 @@ steps-spec 𝓤 H 𝓜 𝓖 𝓡 =
     entered 𝓤 H (tripleOf 𝓤 H (𝓖 .A) this.signature (this.spec 𝓤 H (𝓖 .A) (𝓜 .mem) (𝓡 .run)))
     (tables 𝓤 H 𝓜 𝓡 code.env .C) (tables 𝓤 H 𝓜 𝓡 code.env .Λ) #example-lent·steps code.function (code.unfolded 𝓤 H 𝓜 𝓡)
     (meets 𝓤 H (𝓖 .A) (givenOf 𝓤 H 𝓜 𝓖) (𝓜 .mem) (𝓡 .run) (tablesOf 𝓤 H 𝓜 (tables 𝓤 H 𝓜 𝓡 code.env))
-    (cited 𝓤 H (New 𝓤 H (𝓖 .A) (𝓜 .mem) (𝓡 .run)) 𝓜 𝓡 code.env #jxl-record·new new-def.routine code.calls-jxl-record·ContainerParser·new (new-thm.met 𝓤 H 𝓜 𝓖 𝓡))
+    (cited 𝓤 H (New 𝓤 H (𝓖 .A) (𝓜 .mem) (𝓡 .run)) 𝓜 𝓡 code.env #jxl-totals·new new-def.routine code.calls-jxl-totals·ContainerParser·new (new-thm.met 𝓤 H 𝓜 𝓖 𝓡))
     (cited 𝓤 H (Feed 𝓤 H (𝓖 .A) (𝓜 .mem) (𝓡 .run)) 𝓜 𝓡 code.env #jxl-feed·feed-bytes feed-def.routine code.calls-jxl-feed·feed-bytes (feed-thm.met 𝓤 H 𝓜 𝓖 𝓡))
     (cited 𝓤 H (Print 𝓤 H (𝓖 .A) (𝓜 .mem) (𝓡 .run)) 𝓜 𝓡 code.env #example-lent·print print-def.routine code.calls-example-lent·print (print-thm.met 𝓤 H 𝓜 𝓖 𝓡)))

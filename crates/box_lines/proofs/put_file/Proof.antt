@@ -4,8 +4,8 @@ use mathlib.Core.Path.{_≡_}
 use Prim.Native.Nat.{_-_}
 use lib.ListN.{length}
 use borrow.Author.Needs.{needs}
-use Rattle.box_answers.proofs.put_file.Statement.{statement}
-use Rattle.box_answers.proofs.put_file.Tie as tie
+use Rattle.box_lines.proofs.put_file.Statement.{statement}
+use Rattle.box_lines.proofs.put_file.Tie as tie
 
 abbrev Inv-loop : tie.InvT-loop
 Inv-loop file₀ line from at₀ i₀ file at i = length file ≡ length file₀

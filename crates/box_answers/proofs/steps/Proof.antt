@@ -4,8 +4,8 @@ use mathlib.Core.Path.{_≡_}
 use Prim.Native.Nat.{_-_}
 use lib.ListN.{length}
 use borrow.Author.Needs.{needs}
-use Rattle.box_answers.proofs.feed.steps.Statement.{statement}
-use Rattle.box_answers.proofs.feed.steps.Tie as tie
+use Rattle.box_answers.proofs.steps.Statement.{statement}
+use Rattle.box_answers.proofs.steps.Tie as tie
 
 abbrev Inv-loop : tie.InvT-loop
 Inv-loop out₀ file end after₀ turns₀ out after turns = length out ≡ length out₀

@@ -1,10 +1,11 @@
-// What the steps show, in the words of the list, put one behind the other into a buffer.
-use jxl_container::BitstreamKind;
-use jxl_container::BoxRefusal;
-use jxl_container::ParseEvent;
+// The stored lists of boxes: the bytes of a file read from a line, and what the steps show put one behind the other into a buffer, in the
+// words of the list. For the programs that replay the lists and that run the pieces.
+use jxl_events::ParseEvent;
+use jxl_record::BitstreamKind;
+use jxl_refusals::BoxRefusal;
 
 // Puts the first letter of a token, behind a space unless it is the first token.
-pub(crate) fn start(out: &mut [u8], to: usize, letter: u8) -> usize {
+fn start(out: &mut [u8], to: usize, letter: u8) -> usize {
     if to == 0 {
         return replay_text::put_byte(out, to, letter);
     }
@@ -47,7 +48,7 @@ fn choice(out: &mut [u8], to: usize, first: bool, yes: u8, no: u8) -> usize {
 }
 
 // Puts an event of a step whose input starts at `base` of the file.
-pub(crate) fn event(out: &mut [u8], to: usize, shown: ParseEvent, base: usize) -> usize {
+pub fn event(out: &mut [u8], to: usize, shown: ParseEvent, base: usize) -> usize {
     match shown {
         ParseEvent::BitstreamKind(kind) => {
             let next = start(out, to, b'K');
@@ -76,7 +77,7 @@ pub(crate) fn event(out: &mut [u8], to: usize, shown: ParseEvent, base: usize) -
 }
 
 // Puts a refusal: its number, and of a wrong index the one expected and the one found.
-pub(crate) fn refusal(out: &mut [u8], to: usize, told: BoxRefusal) -> usize {
+pub fn refusal(out: &mut [u8], to: usize, told: BoxRefusal) -> usize {
     let next = start(out, to, b'R');
     let number = replay_text::put_decimal(out, next, told.number() as u64);
     if let BoxRefusal::WrongIndex { found, expected } = told {
@@ -90,12 +91,24 @@ pub(crate) fn refusal(out: &mut [u8], to: usize, told: BoxRefusal) -> usize {
 }
 
 // Puts the end of a packet's feed: all bytes consumed so far.
-pub(crate) fn packet_end(out: &mut [u8], to: usize, consumed: usize) -> usize {
+pub fn packet_end(out: &mut [u8], to: usize, consumed: usize) -> usize {
     let next = start(out, to, b'|');
     replay_text::put_decimal(out, next, consumed as u64)
 }
 
 // Puts a token that no line has, where `is_kept`, a rule that the list does not spell out, is broken.
-pub(crate) fn rule(out: &mut [u8], to: usize, is_kept: bool) -> usize {
+pub fn rule(out: &mut [u8], to: usize, is_kept: bool) -> usize {
     if is_kept { to } else { start(out, to, b'!') }
+}
+
+// Puts the bytes that `line` holds in hex from `from` on at the front of `file`, and answers how many there are.
+pub fn put_file(file: &mut [u8], line: &[u8], from: usize) -> usize {
+    let mut at = 0;
+    let mut i = from;
+    while i < line.len() {
+        let byte = replay_text::parse_hex(jxl_slices::part(line, i, i + 2), 0);
+        at = replay_text::put_byte(file, at, (byte.value % 256) as u8);
+        i += 2;
+    }
+    at
 }

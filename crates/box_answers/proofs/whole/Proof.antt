@@ -5,8 +5,8 @@ use Prim.Native.Nat.{_-_}
 use native.Mathlib.Omega.{arith}
 use lib.ListN.{length}
 use borrow.Author.Needs.{needs}
-use Rattle.box_answers.proofs.feed.whole.Statement.{statement}
-use Rattle.box_answers.proofs.feed.whole.Tie as tie
+use Rattle.box_answers.proofs.whole.Statement.{statement}
+use Rattle.box_answers.proofs.whole.Tie as tie
 
 abbrev Inv-loop : tie.InvT-loop
 Inv-loop out₀ file cuts feed₀ end₀ at₀ out feed end at = length out ≡ length out₀
@@ -14,8 +14,8 @@ Inv-loop out₀ file cuts feed₀ end₀ at₀ out feed end at = length out ≡ 
 abbrev μ-loop : tie.MeasureT-loop
 μ-loop out₀ file cuts feed₀ end₀ at₀ out feed end at = length cuts - at
 
-new-requires : tie.Need-new-requires Inv-loop μ-loop
-new-requires c κs = search needs
+fresh-requires : tie.Need-fresh-requires Inv-loop μ-loop
+fresh-requires c κs = search needs
 
 loop-holds : tie.Need-loop-holds Inv-loop μ-loop
 loop-holds c = search needs
@@ -39,7 +39,12 @@ find-requires : tie.Need-find-requires Inv-loop μ-loop
 find-requires c κs = search needs
 
 add-at : tie.Need-add-at Inv-loop μ-loop
-add-at c = omega (arith, c .find .ensures .1 (omega arith))
+add-at c =
+    omega (
+      arith,
+      c .find .ensures .1 (omega arith),
+      c .before .before .before .before .before .before .before .before .before .before .before .before .before .before .good,
+    )
 
 loop-less : tie.Need-loop-less Inv-loop μ-loop
 loop-less c = search needs
@@ -59,7 +64,7 @@ whole-spec =
     (tie.spec
     Inv-loop
     μ-loop
-    new-requires
+    fresh-requires
     loop-holds
     same-length
     returns
