@@ -32,6 +32,8 @@ fn same_refusal(refusal: BoxRefusal) -> BoxRefusal
         BoxRefusal::ImpossibleRecord => BoxRefusal::ImpossibleRecord,
         BoxRefusal::ValidationFailed => BoxRefusal::ValidationFailed,
         BoxRefusal::StreamLimit => BoxRefusal::StreamLimit,
+        BoxRefusal::CutShort => BoxRefusal::CutShort,
+        BoxRefusal::Closed => BoxRefusal::Closed,
     }
 }
 

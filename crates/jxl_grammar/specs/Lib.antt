@@ -1,3 +1,4 @@
+pub mod End
 pub mod Step
 pub mod Laws
 pub mod Grammar

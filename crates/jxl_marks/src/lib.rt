@@ -85,6 +85,8 @@ pub fn place(rule: BoxRefusal, total: u64, header: u64) -> u64
     match rule {
         BoxRefusal::ImpossibleRecord => total,
         BoxRefusal::StreamLimit => total,
+        BoxRefusal::CutShort => total,
+        BoxRefusal::Closed => total,
         BoxRefusal::ShortSize => header,
         BoxRefusal::ExtendedSize => header,
         BoxRefusal::SecondJxlc => header,

@@ -1,7 +1,7 @@
 -- Numbers 10 to 19 merged back into 1.
 use mathlib.Core.Path.{refl}
 use Rattle.jxl_refusals.specs.Theorems.{MergesBack}
-use Rattle.jxl_refusals.specs.declared.BoxRefusal.the-variants.{ShortSize, ExtendedSize, SecondJxlc, JxlcAfterJxlp, JxlpTooSmall, JxlpAfterJxlc, JxlpAfterLast, WrongIndex, BrobTooSmall, ImpossibleRecord, ValidationFailed, StreamLimit}
+use Rattle.jxl_refusals.specs.declared.BoxRefusal.the-variants.{ShortSize, ExtendedSize, SecondJxlc, JxlcAfterJxlp, JxlpTooSmall, JxlpAfterJxlc, JxlpAfterLast, WrongIndex, BrobTooSmall, ImpossibleRecord, ValidationFailed, StreamLimit, CutShort, Closed}
 
 pub merges-back : MergesBack
 merges-back ShortSize = refl
@@ -16,3 +16,5 @@ merges-back BrobTooSmall = refl
 merges-back ImpossibleRecord = refl
 merges-back ValidationFailed = refl
 merges-back StreamLimit = refl
+merges-back CutShort = refl
+merges-back Closed = refl

@@ -8,7 +8,7 @@ use Rattle.jxl_cuts.specs.Machine.{if}
 use Rattle.jxl_refusals.specs.Refusals.{Why, refusal, why}
 use Rattle.jxl_refusals.specs.Theorems.{WhyTells}
 use Rattle.jxl_refusals.specs.declared.BoxRefusal.{BoxRefusal}
-use Rattle.jxl_refusals.specs.declared.BoxRefusal.the-variants.{ShortSize, ExtendedSize, SecondJxlc, JxlcAfterJxlp, JxlpTooSmall, JxlpAfterJxlc, JxlpAfterLast, WrongIndex, BrobTooSmall, ImpossibleRecord, ValidationFailed, StreamLimit}
+use Rattle.jxl_refusals.specs.declared.BoxRefusal.the-variants.{ShortSize, ExtendedSize, SecondJxlc, JxlcAfterJxlp, JxlpTooSmall, JxlpAfterJxlc, JxlpAfterLast, WrongIndex, BrobTooSmall, ImpossibleRecord, ValidationFailed, StreamLimit, CutShort, Closed}
 
 abbrev ruleOf : Why → BoxRefusal
 ruleOf (refusal n values) =
@@ -22,7 +22,9 @@ ruleOf (refusal n values) =
     (if (eqb n 17) (WrongIndex (getD values 1 0) (getD values 0 0))
     (if (eqb n 18) BrobTooSmall
     (if (eqb n 19) ImpossibleRecord
-    (if (eqb n 20) StreamLimit ValidationFailed))))))))))
+    (if (eqb n 20) StreamLimit
+    (if (eqb n 21) CutShort
+    (if (eqb n 22) Closed ValidationFailed))))))))))))
 
 again : (r : BoxRefusal) → ruleOf (why r) ≡ r
 again ShortSize = refl
@@ -37,6 +39,8 @@ again BrobTooSmall = refl
 again ImpossibleRecord = refl
 again ValidationFailed = refl
 again StreamLimit = refl
+again CutShort = refl
+again Closed = refl
 
 pub why-tells : WhyTells
 why-tells r q e = sym (again r) ∙ ap ruleOf e ∙ again q

@@ -1,4 +1,4 @@
-// Why a parser refuses: which rule of the container broke.
+// Why a parser takes no more: which rule of the container broke; or that it was ended.
 ghost use mathlib.Core.Path.{_≡_};
 ghost use Rattle.jxl_refusals.specs.Refusals.{numberOf, why};
 
@@ -29,6 +29,11 @@ pub enum BoxRefusal {
     ValidationFailed,
     // Bytes beyond the limit of a file, where more is wanted.
     StreamLimit,
+    // The file was ended where something is missing.
+    CutShort,
+    // The file was ended, and nothing is missing. Not a refusal of the file: a parser that was ended stays so as a refused one does, and
+    // answers every feed Closed.
+    Closed,
 }
 
 impl BoxRefusal {
@@ -52,6 +57,8 @@ impl BoxRefusal {
             BoxRefusal::ImpossibleRecord => 19,
             BoxRefusal::ValidationFailed => 2,
             BoxRefusal::StreamLimit => 20,
+            BoxRefusal::CutShort => 21,
+            BoxRefusal::Closed => 22,
         }
     }
 }

@@ -54,6 +54,8 @@ Own Rule.BrobTooSmall = Unit {0}
 Own Rule.ImpossibleRecord = Unit {0}
 Own Rule.ValidationFailed = Unit {0}
 Own Rule.StreamLimit = ⊥
+Own Rule.CutShort = ⊥
+Own Rule.Closed = ⊥
 
 -- behind a header, or away from one: a payload ends where the step does, and where more is wanted no header is next
 abbrev Behind : Told → Type 0

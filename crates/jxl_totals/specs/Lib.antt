@@ -1,5 +1,6 @@
 pub mod Step
 pub mod Naming
+pub mod End
 pub mod Parser
 pub mod Feeding
 pub mod Laws

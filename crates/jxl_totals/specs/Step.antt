@@ -75,7 +75,8 @@ newest read p = if (and (atHeader (p .boxes)) read) (p .total) (p .header)
 abbrev pub behind : ContainerParser → BoxParser → ℕ → ContainerParser
 behind p q n = counted q (p .total + n) (newest (ltb 0 n) p)
 
--- whether a refusal concerns a header: "with none (StreamLimit too)" are that and a record that no file leads to
+-- whether a refusal concerns a header: "with none (StreamLimit too, and P4's CutShort)" are these, a record that no file leads to, and a
+-- closed one
 abbrev pub ofHeader : BoxRefusal → Bool
 ofHeader Rule.ShortSize = true
 ofHeader Rule.ExtendedSize = true
@@ -89,6 +90,8 @@ ofHeader Rule.BrobTooSmall = true
 ofHeader Rule.ImpossibleRecord = false
 ofHeader Rule.ValidationFailed = true
 ofHeader Rule.StreamLimit = false
+ofHeader Rule.CutShort = false
+ofHeader Rule.Closed = false
 
 -- a refusal by the refused record: it carries the total, and "names the first byte of the header it concerns, or, with none, the total"
 abbrev pub refusalOf : BoxRefusal → ContainerParser → FileRefusal
