@@ -21,7 +21,7 @@ stopAs name want = want
 stopAs name (refused r) = refused (name r)
 
 abbrev pub listingAs : {A B : Type 0} → (A → B) → ListingBy A → ListingBy B
-listingAs name l = record { events = l .events; consumed = l .consumed; stop = stopAs name (l .stop) }
+listingAs name l = record { events = l .events; consumed = l .consumed; stop = stopAs name (l .stop); close = l .close }
 
 -- an answer in the paper's words: a refusal by its number and the values that it tells
 abbrev pub Numbered : Type 0

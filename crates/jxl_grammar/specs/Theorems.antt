@@ -3,6 +3,7 @@
 use mathlib.Core.Path.{_≡_}
 use mathlib.Core.List.{List, [], _∷_}
 use Prim.Native.Nat.{ℕ}
+use lib.ListN.{drop}
 use Rattle.jxl_refusals.specs.Refusals.{why, inDocument01, merged}
 use Rattle.jxl_refusals.specs.declared.BoxRefusal.the-variants.{ImpossibleRecord}
 use Rattle.jxl_record.specs.Record.{fresh}
@@ -13,19 +14,24 @@ use Rattle.jxl_record.specs.declared.BoxParser.{BoxParser}
 use Rattle.jxl_events.specs.declared.ParseEvent.the-variants as E
 use Rattle.jxl_cuts.specs.Lawful.{Lawful}
 use Rattle.jxl_cuts.specs.Feeding as Any
+use Rattle.jxl_grammar.specs.End.{closeAt, closeOf}
 use Rattle.jxl_grammar.specs.Parser.{parserBy, parser}
 use Rattle.jxl_grammar.specs.Grammar.{Listing}
 use Rattle.jxl_grammar.specs.Naming.{toldAs, listingAs, stepBy, fileBy}
 use Rattle.jxl_grammar.specs.Feeding.{events}
 
--- what was seen of a parser that steps so, as a listing
-abbrev pub listing : {step : BoxParser → List ℕ → Told} → Any.Seen (parserBy step) → Listing
-listing r = record { events = events r; consumed = r .consumed; stop = r .stop }
+-- what was seen of a parser that steps so, as a listing, and what an end with the bytes left unread comes to
+abbrev pub listing : {step : BoxParser → List ℕ → Told} → List ℕ → Any.Seen (parserBy step) → Listing
+listing unread r =
+    record { events = events r; consumed = r .consumed; stop = r .stop; close = closeAt (r .consumed) (closeOf (r .next) unread) }
 
 -- a step that is right of every file: fed whole to a fresh parser it shows exactly the grammar's events, consumes what it says and
--- stops as it says, a refusal by its number and values
+-- stops as it says, a refusal by its number and values; and where it wants more, an end comes to what the grammar says
 abbrev pub ListsEveryFile : (BoxParser → List ℕ → Told) → Type 0
-ListsEveryFile step = (s : List ℕ) → listingAs why (listing {step = step} (Any.feeding (parserBy step) fresh 0 (s ∷ []))) ≡ fileBy why s
+ListsEveryFile step =
+    (s : List ℕ) →
+    let r = Any.feeding (parserBy step) fresh 0 (s ∷ []) in
+    listingAs why (listing {step = step} (drop (r .consumed) s) r) ≡ fileBy why s
 
 -- versions to catch: a parser that only refuses, one that only says KIND invalid, one that only says WANT, and one that gives its first
 -- event rightly and then says WANT
