@@ -26,11 +26,14 @@ use Rattle.jxl_base.proofs.Never.{never}
 use Rattle.jxl_totals.specs.Step.{Told, shows, wants, refuses, limit, fresh, room, visible, beyond, behind, refusalOf, refused, wanting, stepOf}
 use Rattle.jxl_totals.specs.Feeding.{Seen, want, events, Takes, more, waits, ends}
 use Rattle.jxl_totals.specs.Feeding as Feeding
-use Rattle.jxl_files.specs.Files.{limitedStop, file}
-use Rattle.jxl_files.specs.Theorems.{ruleIn, AsBefore}
+use Rattle.jxl_grammar.specs.End.{Close, missing, closeAt, closeOf}
+use Rattle.jxl_grammar.proofs.Listed.{refused-close}
+use Rattle.jxl_cuts.proofs.Theorems as Any
+use Rattle.jxl_files.specs.Files.{limitedStop, limitedClose, file}
+use Rattle.jxl_files.specs.Theorems.{ruleIn, closeIn, AsBefore}
 use Rattle.jxl_totals.specs.declared.ContainerParser.{ContainerParser}
 use Rattle.jxl_totals.specs.declared.FileRefusal.{FileRefusal}
-use Rattle.jxl_totals.proofs.Counting.{step-by, shown-by, visible-most, visible-behind}
+use Rattle.jxl_totals.proofs.Counting.{step-by, shown-by, visible-most, visible-behind, not-beyond}
 use Rattle.jxl_totals.proofs.Taking.{takes}
 
 -- what the rules tell where more is wanted, and where a step refuses
@@ -79,14 +82,23 @@ module _ (p : ContainerParser) (s : List ℕ) where
           byRule (k ∙ (λ i. refuses (rule i) o (far i))) (sym next ∙ ap (refused p o) far) (sym why ∙ (λ i. refusalOf (rule i) (next i)))
 
 -- what was seen, and what the rules saw of the input that is there
-pub record Follows (more : Bool) (r : Seen) (b : Boxes.Seen) : Type 0 where
+pub record Follows (more : Bool) (r : Seen) (u : List ℕ) (b : Boxes.Seen) (v : List ℕ) : Type 0 where
   pub events-are : withoutTotals (events r) ≡ Boxes.events b
   pub consumed-is : r .consumed ≡ b .consumed
   pub stop-is : ruleIn (r .stop) ≡ limitedStop more (b .stop)
+  pub close-is : closeOf (r .next .boxes) u ≡ limitedClose more (closeOf (b .next) v)
 
 stop-rule : (more : Bool) (r : BoxRefusal) → limitedStop more (Grammar.refused r) ≡ Grammar.refused r
 stop-rule true r = refl
 stop-rule false r = refl
+
+close-missing : (more : Bool) → limitedClose more missing ≡ missing
+close-missing true = refl
+close-missing false = refl
+
+close-limited : (n : ℕ) (more : Bool) (w : Close) → closeAt n (limitedClose more w) ≡ limitedClose more (closeAt n w)
+close-limited n true w = refl
+close-limited n false w = refl
 
 beyond-behind : (p : ContainerParser) (q : BoxParser) (c : ℕ) (s : List ℕ) → c ≤ length (visible p s) → beyond (behind p q c) (drop c s) ≡ beyond p s
 beyond-behind p q c s h = go (beyond p s) refl
@@ -96,7 +108,7 @@ beyond-behind p q c s h = go (beyond p s) refl
     go false e = le-ltb (limit - (p .total + c)) (length (drop c s)) (omega (arith, length-drop c s, ltb-false (room p) (length s) e))
 
 pub follows : {p : ContainerParser} {at : ℕ} {s u : List ℕ} {r : Seen} → Takes p at s r u
-    → (b : Boxes.Seen) × (v : List ℕ) × Boxes.Takes (p .boxes) at (visible p s) b v × Follows (beyond p s) r b
+    → (b : Boxes.Seen) × (v : List ℕ) × Boxes.Takes (p .boxes) at (visible p s) b v × Follows (beyond p s) r u b v
 follows {p} {at} {s} (more {q = q} {c = c} {e = e} {r = r} k t) =
     let first = shown-by p s k in
     let most = (rw (first .0) at (BoxLaws.every-step (p .boxes) (visible p s))) .0 in
@@ -110,6 +122,7 @@ follows {p} {at} {s} (more {q = q} {c = c} {e = e} {r = r} k t) =
         events-are = ap (λ (es : List ParseEvent). shifted at (e .event) ∷ es) (then .3 .events-are);
         consumed-is = then .3 .consumed-is;
         stop-is = then .3 .stop-is ∙ ap (λ (b : Bool). limitedStop b (then .0 .stop)) still;
+        close-is = then .3 .close-is ∙ ap (λ (b : Bool). limitedClose b (closeOf (then .0 .next) (then .1))) still;
       },
     )
 follows {p} {at} {s} (waits {q = q} {c = c} k) =
@@ -117,36 +130,71 @@ follows {p} {at} {s} (waits {q = q} {c = c} k) =
       Boxes.stops Grammar.want (q .boxes) (at + c),
       drop c (visible p s),
       Boxes.waits (by .0),
-      record { events-are = refl; consumed-is = refl; stop-is = ap (λ (b : Bool). limitedStop b Grammar.want) (sym (by .1)) },
+      record {
+        events-are = refl;
+        consumed-is = refl;
+        stop-is = ap (λ (b : Bool). limitedStop b Grammar.want) (sym (by .1));
+        close-is = ap (λ (l : List ℕ). closeOf (q .boxes) (drop c l)) (sym (not-beyond p s (by .1))) ∙ ap (λ (b : Bool). limitedClose b (closeOf (q .boxes) (drop c (visible p s)))) (sym (by .1));
+      },
     )
 follows {p} {at} {s} (ends {q = q} {c = c} {w = w} k) = go (refusing-by p s k)
   where
-    go : Refusing p s w q c → (b : Boxes.Seen) × (v : List ℕ) × Boxes.Takes (p .boxes) at (visible p s) b v × Follows (beyond p s) (Feeding.stops (Feeding.refused w) q (at + c)) b
+    go : Refusing p s w q c → (b : Boxes.Seen) × (v : List ℕ) × Boxes.Takes (p .boxes) at (visible p s) b v × Follows (beyond p s) (Feeding.stops (Feeding.refused w) q (at + c)) (drop c s) b v
     go (byRule {o = o} h next why) = (
       Boxes.stops (Grammar.refused (w .rule)) o (at + c),
       drop c (visible p s),
       Boxes.ends h,
-      record { events-are = refl; consumed-is = refl; stop-is = sym (stop-rule (beyond p s) (w .rule)) },
+      record {
+        events-are = refl;
+        consumed-is = refl;
+        stop-is = sym (stop-rule (beyond p s) (w .rule));
+        close-is =
+            let repeats = (rw h at (BoxLaws.every-step (p .boxes) (visible p s))) .1 in
+            ap (λ (x : ContainerParser). closeOf (x .boxes) (drop c s)) next ∙ refused-close (w .rule) o (drop c s) repeats
+            ∙ sym (ap (limitedClose (beyond p s)) (refused-close (w .rule) o (drop c (visible p s)) repeats) ∙ close-missing (beyond p s));
+      },
     )
     go (byLimit {o = o} h e next why) = (
       Boxes.stops Grammar.want o (at + c),
       drop c (visible p s),
       Boxes.waits h,
-      record { events-are = refl; consumed-is = refl; stop-is = ap (λ (x : FileRefusal). Grammar.refused (x .rule)) why ∙ ap (λ (b : Bool). limitedStop b Grammar.want) (sym e) },
+      record {
+        events-are = refl;
+        consumed-is = refl;
+        stop-is = ap (λ (x : FileRefusal). Grammar.refused (x .rule)) why ∙ ap (λ (b : Bool). limitedStop b Grammar.want) (sym e);
+        close-is =
+            ap (λ (x : ContainerParser). closeOf (x .boxes) (drop c s)) next
+            ∙ refused-close StreamLimit (Rules.refused StreamLimit o) (drop c s) (BoxLaws.refused-repeats (Record.kindOf o) StreamLimit (o .jxlp))
+            ∙ ap (λ (b : Bool). limitedClose b (closeOf o (drop c (visible p s)))) (sym e);
+      },
     )
 
 -- a whole file fed to a fresh parser
 pub whole : (s : List ℕ) → (withoutTotals (events (Feeding.take fresh s)) ≡ file s .events) × (Feeding.take fresh s .consumed ≡ file s .consumed)
-    × (ruleIn (Feeding.take fresh s .stop) ≡ file s .stop)
+    × (ruleIn (Feeding.take fresh s .stop) ≡ file s .stop) × (closeIn s (Feeding.take fresh s) ≡ file s .close)
 unfolding file
 whole s =
-    let by = follows (takes fresh 0 s .1) in
+    let got = takes fresh 0 s in
+    let by = follows (got .1) in
     let seen : by .0 ≡ Boxes.take Record.fresh 0 (take limit s) = sym (BoxTaking.take-is (by .2)) in
-    let lists : BoxTheorems.listing (by .0) ≡ Grammar.file (take limit s) =
-    ap BoxTheorems.listing (seen ∙ sym (BoxProofs.whole-feed Record.fresh 0 (take limit s))) ∙ BoxProofs.whole-file (take limit s) in (
+    let all : by .0 .consumed - 0 ≡ by .0 .consumed = omega arith in
+    let left : by .1 ≡ drop (by .0 .consumed) (take limit s) = Any.unread (by .2) .1 ∙ ap (λ (n : ℕ). drop n (take limit s)) all in
+    let lists : BoxTheorems.listing (by .1) (by .0) ≡ Grammar.file (take limit s) =
+    ap (λ (u : List ℕ). BoxTheorems.listing u (by .0)) left
+    ∙ ap (λ (r : Boxes.Seen). BoxTheorems.listing (drop (r .consumed) (take limit s)) r) (seen ∙ sym (BoxProofs.whole-feed Record.fresh 0 (take limit s)))
+    ∙ BoxProofs.whole-file (take limit s) in
+    let c = Feeding.take fresh s .consumed in
+    let every : c - 0 ≡ c = omega arith in
+    let unread : drop c s ≡ got .0 = sym (Any.unread (got .1) .1 ∙ ap (λ (n : ℕ). drop n s) every) in
+    let more = ltb limit (length s) in (
       by .3 .events-are ∙ ap (λ (l : Grammar.Listing). l .events) lists,
       by .3 .consumed-is ∙ ap (λ (l : Grammar.Listing). l .consumed) lists,
-      by .3 .stop-is ∙ ap (λ (l : Grammar.Listing). limitedStop (ltb limit (length s)) (l .stop)) lists,
+      by .3 .stop-is ∙ ap (λ (l : Grammar.Listing). limitedStop more (l .stop)) lists,
+      ap (λ (u : List ℕ). closeAt c (closeOf (Feeding.take fresh s .next .boxes) u)) unread
+          ∙ ap (closeAt c) (by .3 .close-is)
+          ∙ close-limited c more (closeOf (by .0 .next) (by .1))
+          ∙ ap (λ (n : ℕ). limitedClose more (closeAt n (closeOf (by .0 .next) (by .1)))) (by .3 .consumed-is)
+          ∙ ap (λ (l : Grammar.Listing). limitedClose more (l .close)) lists,
     )
 
 pub as-before : AsBefore

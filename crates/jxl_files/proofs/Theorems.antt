@@ -3,6 +3,7 @@ use mathlib.Core.Path.{_≡_, refl, sym, ap, _∙_, subst}
 use mathlib.Core.List.{List, [], _∷_, _++_}
 use Prim.Native.Nat.{ℕ, _+_}
 use native.Mathlib.Omega.{arith}
+use lib.ListN.{drop}
 use Rattle.jxl_cuts.specs.Theorems as AnyTheorems
 use Rattle.jxl_cuts.specs.Feeding as AnyFeeding
 use Rattle.jxl_cuts.proofs.Theorems as Any
@@ -13,6 +14,7 @@ use Rattle.jxl_events.specs.Total.{withoutTotals}
 use Rattle.jxl_events.specs.declared.FileEvent.{FileEvent}
 use Rattle.jxl_grammar.specs.Grammar as Grammar
 use Rattle.jxl_grammar.specs.Naming.{stopAs, listingAs}
+use Rattle.jxl_grammar.specs.End.{closeAt, closeOf}
 use Rattle.jxl_totals.specs.Step.{fresh}
 use Rattle.jxl_totals.specs.Parser.{parser}
 use Rattle.jxl_totals.specs.Feeding.{Seen, events, joined, take, feeding, bytesOf}
@@ -34,30 +36,33 @@ pub every-cut : EveryCut
 every-cut p xs r = Any.every-cut parser lawful p (p .total) xs (empty-feed p r)
 
 -- by the rule that broke: the events as they come, and joined
-whole-events : (s : List ℕ) → listingWith (events (take fresh s)) (take fresh s) ≡ file s
-whole-events s = let w = whole s in (λ i. record { events = w .0 i; consumed = w .1 i; stop = w .2 i })
+whole-events : (s : List ℕ) → listingWith (events (take fresh s)) s (take fresh s) ≡ file s
+whole-events s = let w = whole s in (λ i. record { events = w .0 i; consumed = w .1 i; stop = w .2 i; close = w .3 i })
 
-pub whole-file : (s : List ℕ) → listing (take fresh s) ≡ file s
-whole-file s = ap (λ (es : List FileEvent). listingWith es (take fresh s)) (nothing-to-join fresh s) ∙ whole-events s
+pub whole-file : (s : List ℕ) → listing s (take fresh s) ≡ file s
+whole-file s = ap (λ (es : List FileEvent). listingWith es s (take fresh s)) (nothing-to-join fresh s) ∙ whole-events s
 
 -- packets list what all their bytes do
-cut-listing : (xs : List (List ℕ)) → listing (feeding fresh xs) ≡ listing (take fresh (bytesOf xs))
+cut-listing : (xs : List (List ℕ)) → listing (bytesOf xs) (feeding fresh xs) ≡ listing (bytesOf xs) (take fresh (bytesOf xs))
 cut-listing xs =
     let cut = every-cut fresh xs refl in
     let all = whole-feed fresh (bytesOf xs) in
     let same : joined (events (feeding fresh xs)) ≡ joined (events (take fresh (bytesOf xs))) =
     cut .events-are ∙ ap events all ∙ sym (nothing-to-join fresh (bytesOf xs)) in
+    let consumed = cut .consumed-is ∙ ap (λ (r : Seen). r .consumed) all in
+    let next = cut .next-is ∙ ap (λ (r : Seen). r .next) all in
     (λ i. record {
       events = withoutTotals (same i);
-      consumed = (cut .consumed-is ∙ ap (λ (r : Seen). r .consumed) all) i;
+      consumed = consumed i;
       stop = ruleIn ((cut .stop-is ∙ ap (λ (r : Seen). r .stop) all) i);
+      close = closeAt (consumed i) (closeOf (next i .boxes) (drop (consumed i) (bytesOf xs)));
     })
 
-pub cut-file : (xs : List (List ℕ)) → listing (feeding fresh xs) ≡ file (bytesOf xs)
+pub cut-file : (xs : List (List ℕ)) → listing (bytesOf xs) (feeding fresh xs) ≡ file (bytesOf xs)
 cut-file xs = cut-listing xs ∙ whole-file (bytesOf xs)
 
 pub every-file : EveryFile
-every-file s = ap (listingAs why) (ap (λ (r : Seen). listingWith (events r) r) (whole-feed fresh s) ∙ whole-events s)
+every-file s = ap (listingAs why) (ap (λ (r : Seen). listingWith (events r) s r) (whole-feed fresh s) ∙ whole-events s)
 
 pub every-cut-of-a-file : EveryCutOfAFile
 every-cut-of-a-file xs = ap (listingAs why) (cut-file xs)
@@ -71,8 +76,8 @@ stop-merges (Grammar.refused r) = ap Grammar.refused (merges-back r)
 
 pub every-cut-merges-back : EveryCutMergesBack
 every-cut-merges-back xs h =
-    let l = listing (feeding fresh xs) in
-    (λ i. record { events = l .events; consumed = l .consumed; stop = stop-merges (l .stop) i })
+    let l = listing (bytesOf xs) (feeding fresh xs) in
+    (λ i. record { events = l .events; consumed = l .consumed; stop = stop-merges (l .stop) i; close = l .close })
     ∙ ap (listingAs inDocument01) (cut-file xs ∙ as-before (bytesOf xs) h)
 
 pub bytes-shown : BytesShown

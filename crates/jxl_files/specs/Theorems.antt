@@ -4,7 +4,7 @@ use mathlib.Core.Path.{_≡_}
 use mathlib.Core.Bool.{false}
 use mathlib.Core.List.{List, [], _∷_, _++_}
 use Prim.Native.Nat.{ℕ, _+_, _/_, _<_, _≤_}
-use lib.ListN.{length}
+use lib.ListN.{length, drop}
 use Rattle.jxl_cuts.specs.Theorems as Any
 pub use Rattle.jxl_cuts.specs.Theorems.{All}
 use Rattle.jxl_refusals.specs.Refusals.{Naming, why, inDocument01, merged}
@@ -14,6 +14,7 @@ use Rattle.jxl_events.specs.declared.FileEvent.{FileEvent}
 use Rattle.jxl_grammar.specs.Grammar.{Listing}
 use Rattle.jxl_grammar.specs.Grammar as Grammar
 use Rattle.jxl_grammar.specs.Naming.{stopAs, listingAs, fileBy}
+use Rattle.jxl_grammar.specs.End.{Close, closeAt, closeOf}
 use Rattle.jxl_totals.specs.Step.{limit, fresh, isRefused, room}
 use Rattle.jxl_totals.specs.Parser.{parser}
 use Rattle.jxl_totals.specs.Feeding.{Stop, Shown, Seen, want, refused, events, joined, taking, take, Takes, feeding, bytesOf}
@@ -55,25 +56,29 @@ LimitMeansBeyond =
     (p : ContainerParser) (xs : List (List ℕ)) (r : FileRefusal) → isRefused p ≡ false → feeding p xs .stop ≡ refused r → r .rule ≡ StreamLimit
     → room p < length (bytesOf xs)
 
--- what was seen as a listing, with these of its events: without totals, and the stop by the rule that broke
+-- what was seen of a file as a listing, with these of its events: without totals, the stop by the rule that broke, and what an end with the
+-- bytes left unread comes to
 abbrev pub ruleIn : Stop → Grammar.Stop
 ruleIn = stopAs (λ (r : FileRefusal). r .rule)
 
-abbrev pub listingWith : List FileEvent → Seen → Listing
-listingWith es r = record { events = withoutTotals es; consumed = r .consumed; stop = ruleIn (r .stop) }
+abbrev pub closeIn : List ℕ → Seen → Close
+closeIn s r = closeAt (r .consumed) (closeOf (r .next .boxes) (drop (r .consumed) s))
+
+abbrev pub listingWith : List FileEvent → List ℕ → Seen → Listing
+listingWith es s r = record { events = withoutTotals es; consumed = r .consumed; stop = ruleIn (r .stop); close = closeIn s r }
 
 -- with its events joined
-abbrev pub listing : Seen → Listing
-listing r = listingWith (joined (events r)) r
+abbrev pub listing : List ℕ → Seen → Listing
+listing s r = listingWith (joined (events r)) s r
 
 -- every file: fed whole to a fresh parser it shows exactly the grammar's events, consumes what it says and stops as it says, a refusal by
--- its number and values, with the limit
+-- its number and values, with the limit; and where it wants more, an end comes to what the grammar says
 abbrev pub EveryFile : Type 0
-EveryFile = (s : List ℕ) → listingAs why (listingWith (events (feeding fresh (s ∷ []))) (feeding fresh (s ∷ []))) ≡ listingAs why (file s)
+EveryFile = (s : List ℕ) → listingAs why (listingWith (events (feeding fresh (s ∷ []))) s (feeding fresh (s ∷ []))) ≡ listingAs why (file s)
 
 -- and so in any packets, joined
 abbrev pub EveryCutOfAFile : Type 0
-EveryCutOfAFile = (xs : List (List ℕ)) → listingAs why (listing (feeding fresh xs)) ≡ listingAs why (file (bytesOf xs))
+EveryCutOfAFile = (xs : List (List ℕ)) → listingAs why (listing (bytesOf xs) (feeding fresh xs)) ≡ listingAs why (file (bytesOf xs))
 
 -- nothing else moved: a file within the limit lists what it did
 abbrev pub AsBefore : Type 0
@@ -81,12 +86,13 @@ AsBefore = (s : List ℕ) → length s ≤ limit → file s ≡ Grammar.file s
 
 -- and the same whatever the refusals are called
 abbrev pub EveryCutByName : Type 0
-EveryCutByName = (name : Naming) (xs : List (List ℕ)) → listingAs name (listing (feeding fresh xs)) ≡ listingAs name (file (bytesOf xs))
+EveryCutByName = (name : Naming) (xs : List (List ℕ)) → listingAs name (listing (bytesOf xs) (feeding fresh xs)) ≡ listingAs name (file (bytesOf xs))
 
 -- merges back: with numbers 10 to 19 merged into 1, what a file within the limit lists is document 01's, in any packets
 abbrev pub EveryCutMergesBack : Type 0
 EveryCutMergesBack =
-    (xs : List (List ℕ)) → length (bytesOf xs) ≤ limit → listingAs merged (listingAs why (listing (feeding fresh xs))) ≡ fileBy inDocument01 (bytesOf xs)
+    (xs : List (List ℕ)) → length (bytesOf xs) ≤ limit
+    → listingAs merged (listingAs why (listing (bytesOf xs) (feeding fresh xs))) ≡ fileBy inDocument01 (bytesOf xs)
 
 -- every cut: any packets, from any record that is not refused, come to what all their bytes come to, fed at once: events joined, with their
 -- totals, bytes consumed, stop with total and place, and record
