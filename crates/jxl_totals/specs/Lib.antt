@@ -1,6 +1,5 @@
 pub mod Step
 pub mod Naming
-pub mod End
 pub mod Parser
 pub mod Feeding
 pub mod Laws

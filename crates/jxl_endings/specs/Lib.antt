@@ -1,0 +1,4 @@
+pub mod End
+pub mod Laws
+pub mod Ended
+pub mod Theorems
