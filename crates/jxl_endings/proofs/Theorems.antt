@@ -56,7 +56,7 @@ own-open Rule.CutShort o = refl
 own-open Rule.Closed o = absurd o
 
 -- where a feed stopped: one that wants more can go on, and a refusal is what an end answers too
-abbrev Settles : Stop → ContainerParser → Type 0
+abbrev pub Settles : Stop → ContainerParser → Type 0
 Settles want q = isRefused q ≡ false
 Settles (refused w) q = (u : List ℕ) → endOf q u ≡ End.refuses w q
 
@@ -73,7 +73,7 @@ settles {p} {s = s} o (ends {q = q} {c = c} {w = w} k) = λ u. end-repeats p q s
     go (byRule h next why) = own-open (w .rule) ((rw h at (marks (p .boxes) (visible p s))) o)
     go (byLimit h e next why) = ap (λ (x : FileRefusal). isClosed (x .rule)) why
 
-feeding-settles : (p : ContainerParser) (xs : List (List ℕ)) → isRefused p ≡ false → Settles (feeding p xs .stop) (feeding p xs .next)
+pub feeding-settles : (p : ContainerParser) (xs : List (List ℕ)) → isRefused p ≡ false → Settles (feeding p xs .stop) (feeding p xs .next)
 feeding-settles p xs o =
     let cut = every-cut p xs o in
     let all = whole-feed p (bytesOf xs) in
