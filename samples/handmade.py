@@ -1,6 +1,6 @@
 #!/usr/bin/env python3
 """Writes the samples that are made by hand: example.jxl and pieces/, document 01's example of a
-listing and its worked pieces of boxes."""
+listing, its worked pieces of boxes, and the smallest file of each end that document 02 (P4) names."""
 import os
 
 SIGNATURE = bytes.fromhex("0000000c 4a584c20 0d0a870a")
@@ -38,6 +38,23 @@ CONTAINERS = {
     "brob-12-jxlc": box(12, b"brob", b"jxlc"),
     "brob-12-exif": box(12, b"brob", b"Exif"),
 }
+# The ends that the pieces above do not have.
+ENDS = {
+    "no-box": b"",
+    "header-cut": box(8, b"Exif")[:7],
+    "exif-9": box(9, b"Exif", b"x"),
+    "exif-9-short": box(9, b"Exif"),
+    "exif-toend": box(0, b"Exif"),
+    "jxlc-9-short": box(9, b"jxlc"),
+    "jxlc-toend": box(0, b"jxlc"),
+    "jxlp-12-index-cut": box(12, b"jxlp", bytes(3)),
+    "jxlp-12-open": box(12, b"jxlp", bytes(4)),
+    "jxlp-12-open-exif-8": box(12, b"jxlp", bytes(4)) + box(8, b"Exif"),
+    "jxlp-toend-open": box(0, b"jxlp", bytes(4)),
+    "jxlp-toend-last": box(0, b"jxlp", bytes.fromhex("80000000")),
+    "brob-12-inner-cut": box(12, b"brob", b"Exi"),
+    "brob-toend-exif": box(0, b"brob", b"Exif"),
+}
 
 
 def write(name, content):
@@ -50,5 +67,5 @@ os.makedirs("pieces", exist_ok=True)
 write("example.jxl", EXAMPLE)
 for name, content in BARE.items():
     write(f"pieces/{name}.jxl", content)
-for name, content in CONTAINERS.items():
+for name, content in (CONTAINERS | ENDS).items():
     write(f"pieces/{name}.jxl", SIGNATURE + content)

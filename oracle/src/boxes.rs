@@ -1,6 +1,7 @@
 //! The list of `boxes`: files fed to the Rust's parser in packets, and the events it gives.
 
 use crate::box_files;
+use crate::end::{self, End, Owed};
 use crate::fields::hex;
 use crate::rng::Rng;
 use jxl_bitstream::{BitstreamKind, ContainerParser, Error, ParseEvent};
@@ -102,6 +103,41 @@ fn check_kind(parser: &ContainerParser, events: &[Event]) {
     assert_eq!(parser.kind(), told.unwrap_or(BitstreamKind::Unknown));
 }
 
+/// The end of a file, by the judge, held to the Rust's events of the file fed whole: to its refusal
+/// and the bytes that it left unread, and to what it shows when one byte more comes.
+pub fn end_of(file: &[u8], events: &[Event]) -> End {
+    let end = end::of_file(file);
+    let refused = events.iter().find_map(|event| match event {
+        Event::Refused(number) => Some(End::Refused(*number)),
+        _ => None,
+    });
+    assert!(refused.is_none_or(|refused| refused == end));
+    match end {
+        End::Refused(_) => assert!(refused.is_some()),
+        End::CutShort => {}
+        End::Done(owed) => {
+            assert!(matches!(events.last(), Some(Event::Fed(n)) if *n == file.len()));
+            check_owed(file, owed, events.len());
+        }
+    }
+    end
+}
+
+/// One byte more brings the event that is owed, but for the end of a box that goes on then. With
+/// nothing owed it is a byte of a codestream, or of a header, which shows nothing.
+fn check_owed(file: &[u8], owed: Option<Owed>, known: usize) {
+    let more = [file, &[0]].concat();
+    let events = feed(&more, &[file.len(), 1]).expect("no header is begun");
+    match (owed, events[known]) {
+        (Some(Owed::AuxEnd(ty)), Event::End { ty: told }) => assert_eq!(ty, told),
+        (Some(Owed::AuxEnd(ty)), Event::Data { ty: told, .. }) => assert_eq!(ty, told),
+        (Some(Owed::EmptyCode(place)), Event::Code { at, len: 0 }) => assert_eq!(place, at),
+        (Some(Owed::NoMoreAux), Event::NoMoreAux) => {}
+        (None, Event::Code { len: 1, .. } | Event::Fed(_)) => {}
+        (owed, _) => panic!("a byte more does not bring the event owed: {owed:?}"),
+    }
+}
+
 /// An event as the list shows it.
 fn token(event: &Event) -> String {
     match *event {
@@ -136,13 +172,16 @@ pub fn list() -> String {
         }
         let space = if file.is_empty() { "" } else { " " };
         writeln!(out, "f{space}{}", hex(file)).unwrap();
+        let events = feed(file, &[file.len()]).expect("the first line is of the file fed whole");
+        writeln!(out, "e {}", end_of(file, &events)).unwrap();
         lines
             .iter()
             .for_each(|line| writeln!(out, "{line}").unwrap());
         files += 1;
         feeds += lines.len();
     }
-    eprintln!("{files} files, {feeds} feedings, {} lines", files + feeds);
+    let lines = 2 * files + feeds;
+    eprintln!("{files} files, {feeds} feedings, {lines} lines");
     eprintln!("{left_out} files left out: they end 8 to 15 bytes into an extended header");
     out
 }

@@ -4,6 +4,7 @@ extern crate jxl_bitstream; // found in the folder that build.rs tells of
 
 mod box_files;
 mod boxes;
+mod end;
 mod field_cases;
 mod fields;
 mod listing;
@@ -13,7 +14,7 @@ mod unpack;
 use std::io::Write;
 use std::process::ExitCode;
 
-const USAGE: &str = "usage: oracle unpack | fields | boxes | listing FILE..";
+const USAGE: &str = "usage: oracle unpack | fields | boxes | listing FILE.. | end FILE..";
 
 fn main() -> ExitCode {
     let args: Vec<String> = std::env::args().skip(1).collect();
@@ -23,12 +24,23 @@ fn main() -> ExitCode {
         ["fields"] => Ok(field_cases::list()),
         ["boxes"] => Ok(boxes::list()),
         ["listing", ref files @ ..] if !files.is_empty() => listing::of_files(files),
+        ["end", ref files @ ..] if !files.is_empty() => ends(files),
         _ => Err(USAGE.to_string()),
     };
     match answer {
         Ok(text) => print(&text),
         Err(message) => complain(&message),
     }
+}
+
+/// What the judge says of the end of each file, a line each.
+fn ends(names: &[&str]) -> Result<String, String> {
+    let mut out = String::new();
+    for name in names {
+        let file = std::fs::read(name).map_err(|e| format!("{name}: {e}"))?;
+        out += &format!("{}\n", end::of_file(&file));
+    }
+    Ok(out)
 }
 
 /// Writes the whole answer at once.
