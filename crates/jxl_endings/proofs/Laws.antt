@@ -110,13 +110,17 @@ closed-answers : {q : ContainerParser} → Holds q Rule.Closed → (s : List ℕ
     → (numbered (stepOf q s) ≡ Step.refuses (closed (q .total) (q .total)) q 0) × (endOf q s ≡ done [] q)
 closed-answers h s = (ap numbered (step-again s h), end-again s h)
 
-pub done-closes : DoneCloses
-done-closes p q u es e s = go (stands p)
+-- an end that is not refused leaves such a record
+pub done-holds : (p : ContainerParser) (u : List ℕ) {es : List FileEvent} {q : ContainerParser} → endOf p u ≡ done es q → Holds q Rule.Closed
+done-holds p u {es} {q} e = go (stands p)
   where
+    closed-one : stopped Rule.Closed p ≡ q → Holds q Rule.Closed
+    closed-one same = subst (λ (y : ContainerParser). Holds y Rule.Closed) same (stopped-holds Rule.Closed p)
+
     by-close : (w : Close) → closing p w ≡ done es q → Holds q Rule.Closed
     by-close missing h = never cc
-    by-close (owes x) h = let same : stopped Rule.Closed p ≡ q = cc in subst (λ (y : ContainerParser). Holds y Rule.Closed) same (stopped-holds Rule.Closed p)
-    by-close nothing h = let same : stopped Rule.Closed p ≡ q = cc in subst (λ (y : ContainerParser). Holds y Rule.Closed) same (stopped-holds Rule.Closed p)
+    by-close (owes x) h = let same : stopped Rule.Closed p ≡ q = cc in closed-one same
+    by-close nothing h = let same : stopped Rule.Closed p ≡ q = cc in closed-one same
 
     by-again : (r : BoxRefusal) → Holds p r → (t : Bool) → isClosed r ≡ t → if t (done [] p) (refuses (refusalOf r p) p) ≡ done es q → Holds q Rule.Closed
     by-again r h true c k =
@@ -124,9 +128,12 @@ done-closes p q u es e s = go (stands p)
         subst (λ (y : ContainerParser). Holds y Rule.Closed) same (subst (Holds p) (closed-is r c) h)
     by-again r h false c k = never cc
 
-    go : Stands p → (numbered (stepOf q s) ≡ Step.refuses (closed (q .total) (q .total)) q 0) × (endOf q s ≡ done [] q)
-    go (open-still o) = closed-answers (by-close (closeOf (p .boxes) u) (sym (end-open p u o) ∙ e)) s
-    go (held {r = r} h) = closed-answers (by-again r h (isClosed r) refl (sym (end-again u h) ∙ e)) s
+    go : Stands p → Holds q Rule.Closed
+    go (open-still o) = by-close (closeOf (p .boxes) u) (sym (end-open p u o) ∙ e)
+    go (held {r = r} h) = by-again r h (isClosed r) refl (sym (end-again u h) ∙ e)
+
+pub done-closes : DoneCloses
+done-closes p q u es e s = closed-answers (done-holds p u e) s
 
 -- what a record that holds a rule answers
 held-answers : {q : ContainerParser} {r : BoxRefusal} → Holds q r → isClosed r ≡ false → (s : List ℕ)

@@ -60,7 +60,7 @@ abbrev pub Settles : Stop → ContainerParser → Type 0
 Settles want q = isRefused q ≡ false
 Settles (refused w) q = (u : List ℕ) → endOf q u ≡ End.refuses w q
 
-settles : {p : ContainerParser} {at : ℕ} {s u : List ℕ} {r : Seen} → isRefused p ≡ false → Takes p at s r u → Settles (r .stop) (r .next)
+pub settles : {p : ContainerParser} {at : ℕ} {s u : List ℕ} {r : Seen} → isRefused p ≡ false → Takes p at s r u → Settles (r .stop) (r .next)
 settles {p} {s = s} o (more {q = q} k t) = settles ((rw (shown-by p s k .0) at (marks (p .boxes) (visible p s))) .1) t
 settles {p} {s = s} o (waits {q = q} {c = c} k) = go (stands q)
   where
@@ -83,7 +83,7 @@ feeding-settles p xs o =
     (subst (Settles (take p (bytesOf xs) .stop)) (sym next) (settles o (takes p (p .total) (bytesOf xs) .1)))
 
 -- what was seen, and ended, is what its listing says, ended
-ends-as-listed : (s u : List ℕ) (r : Seen) → drop (r .consumed) s ≡ u → Settles (r .stop) (r .next)
+pub ends-as-listed : (s u : List ℕ) (r : Seen) → drop (r .consumed) s ≡ u → Settles (r .stop) (r .next)
     → outcome (finishedBy r (endOf (r .next) u)) ≡ endedListing (listing s r)
 ends-as-listed s u r l h = go (r .stop) refl h
   where

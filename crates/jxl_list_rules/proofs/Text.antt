@@ -1,29 +1,49 @@
 -- The text of what is still to come, taken line by line.
-use mathlib.Core.Path.{_≡_, refl, sym, ap, _∙_}
-use mathlib.Core.List.{List, [], _∷_, _++_, append-assoc}
+use mathlib.Core.Path.{_≡_, refl, sym, ap, _∙_, subst}
+use mathlib.Core.Bool.{Bool, true, false}
+use mathlib.Core.List.{List, [], _∷_, _++_, append-assoc, append-nil}
 use Prim.Native.Nat.{ℕ, suc, _+_, _-_, _<_, _≤_, min}
+use native.Mathlib.Nat.{add-zero}
 use native.Mathlib.Omega.{arith}
+use lib.Dec.{eqb}
 use lib.ListN.{length, take, drop, length-drop}
 use lib.Seq.{take-all, drop-drop}
 use borrow.Author.Tests.{le-leb, lt-leb}
 use Rattle.jxl_cuts.specs.Feeding as Any
+use Rattle.jxl_headers.specs.Bytes.{if, or}
 use Rattle.jxl_refusals.specs.Refusals.{why}
+use Rattle.jxl_refusals.specs.declared.BoxRefusal.{BoxRefusal}
+use Rattle.jxl_refusals.specs.declared.BoxRefusal.the-variants as Rule
+use Rattle.jxl_reach.specs.declared.BytesLeft.the-variants.{ToEnd, Bytes}
+use Rattle.jxl_record.specs.Record.{kindOf}
+use Rattle.jxl_record.specs.declared.DetectState.{DetectState}
+use Rattle.jxl_record.specs.declared.DetectState.the-variants as D
+use Rattle.jxl_record.specs.declared.BoxParser.{BoxParser}
+use Rattle.jxl_grammar.specs.End.{Close, missing, owes, nothing, unknown, rowOpen, stateOwes, closeOf}
+use Rattle.jxl_base.proofs.Never.{never}
 use Rattle.jxl_events.specs.Event.{shifted}
-use Rattle.jxl_events.specs.Total.{further, inFile, EndsAt}
+use Rattle.jxl_events.specs.Total.{carrying, further, inFile, EndsAt, withoutTotals}
 use Rattle.jxl_events.specs.declared.ParseEvent.{ParseEvent}
 use Rattle.jxl_events.specs.declared.ParseEvent.the-variants as E
 use Rattle.jxl_events.specs.declared.FileEvent.{FileEvent}
 use Rattle.jxl_events.proofs.Shifted.{in-file-there, in-file-anywhere}
-use Rattle.jxl_totals.specs.Step.{Told, shows, wants, refuses, fresh, room, stepOf}
+use Rattle.jxl_totals.specs.Step.{Told, shows, wants, fresh, room, refusalOf, stepOf}
+use Rattle.jxl_totals.specs.Step as Step
+use Rattle.jxl_totals.specs.Naming.{isClosed}
 use Rattle.jxl_totals.specs.Parser.{parser}
-use Rattle.jxl_totals.specs.Feeding.{Seen, events, followed, placed, more, waits, ends}
+use Rattle.jxl_totals.specs.Feeding.{Stop, Seen, events, joined, followed, placed, more, waits, ends}
 use Rattle.jxl_totals.specs.Feeding as Feeding
-use Rattle.jxl_files.specs.Theorems.{ruleIn}
+use Rattle.jxl_endings.specs.End.{Ended, done, refuses, closing, endOf}
+use Rattle.jxl_endings.specs.Ended.{placedAt, owedBy, finishedBy, endedListing, outcome}
+use Rattle.jxl_endings.specs.Laws.{Owed, one}
+use Rattle.jxl_endings.proofs.Laws.{end-open, Holds, end-again, step-again, Stands, open-still, held, stands, done-holds, end-keeps}
+use Rattle.jxl_endings.proofs.Theorems.{settles, ends-as-listed}
 use Rattle.jxl_totals.specs.declared.ContainerParser.{ContainerParser}
 use Rattle.jxl_totals.specs.declared.FileRefusal.{FileRefusal}
 use Rattle.jxl_totals.proofs.Laws.{every-step, step-counts}
 use Rattle.jxl_totals.proofs.Taking.{takes, take-is}
-use Rattle.jxl_files.proofs.Theorems.{nothing-to-join, whole-file}
+use Rattle.jxl_files.proofs.Counts.{total-of-packets}
+use Rattle.jxl_files.proofs.Theorems.{whole-feed, nothing-to-join, whole-file}
 use Rattle.jxl_lines.specs.Lines.{printed, text}
 use Rattle.jxl_lines.specs.Pasting.{pasted}
 use Rattle.jxl_lines.specs.Putting.{leaves}
@@ -31,7 +51,7 @@ use Rattle.jxl_lines.specs.declared.Line.the-variants as L
 use Rattle.jxl_lines.specs.declared.Put.the-variants.{Written, NoRoom}
 use Rattle.jxl_lines.specs.declared.StopWord.{StopWord}
 use Rattle.jxl_lines.specs.declared.StopWord.the-variants as S
-use Rattle.jxl_list_rules.specs.Listed.{stopOf, linesOf, listingText, fileText, nextIn, nextOf, listOf}
+use Rattle.jxl_list_rules.specs.Listed.{texts, linesOf, listingText, fileText, inFiles, endText, nextEnd, nextIn, nextOf, listOf}
 use Rattle.jxl_list_rules.specs.declared.AfterStep.the-variants as N
 
 -- what a step that tells an event counts
@@ -50,7 +70,7 @@ module _ (p : ContainerParser) (s : List ℕ) where
   pub wants-counts : {q : ContainerParser} {c : ℕ} → stepOf p s ≡ wants q c → (q .total ≡ p .total + c) × (c ≤ room p)
   wants-counts st = rw st at (step-counts p s)
 
-  pub refuses-counts : {r : FileRefusal} {q : ContainerParser} {c : ℕ} → stepOf p s ≡ refuses r q c → (q .total ≡ p .total + c) × (c ≤ room p)
+  pub refuses-counts : {r : FileRefusal} {q : ContainerParser} {c : ℕ} → stepOf p s ≡ Step.refuses r q c → (q .total ≡ p .total + c) × (c ≤ room p)
   refuses-counts st = let k = rw st at (step-counts p s) in (k .0, k .2)
 
 -- an event's place in the file is where it stands behind the bytes consumed before
@@ -78,7 +98,7 @@ module _ (p : ContainerParser) (s : List ℕ) (k : ℕ) (h : k ≤ length s) whe
   pub wants-fits : {q : ContainerParser} {c : ℕ} → stepOf p (drop k s) ≡ wants q c → k + c ≤ length s
   wants-fits st = omega (arith, (rw st at (every-step p (drop k s))) .0, length-drop k s)
 
-  pub refuses-fits : {q : ContainerParser} {c : ℕ} {r : FileRefusal} → stepOf p (drop k s) ≡ refuses r q c → k + c ≤ length s
+  pub refuses-fits : {q : ContainerParser} {c : ℕ} {r : FileRefusal} → stepOf p (drop k s) ≡ Step.refuses r q c → k + c ≤ length s
   refuses-fits st = omega (arith, (rw st at (every-step p (drop k s))) .0, length-drop k s)
 
 -- how many events the input has from its byte k on
@@ -93,16 +113,78 @@ module _ (p : ContainerParser) (s : List ℕ) (k : ℕ) where
       ∙ ap (λ (l : List ℕ). followed (placed (p .total) (drop k s) e c ∷ []) (Any.take parser q (p .total + c) l)) (drop-drop c k s)
       ∙ ap (λ (n : ℕ). followed (placed (p .total) (drop k s) e c ∷ []) (Any.take parser q n (drop (k + c) s))) (sym (shown-counts p (drop k s) st .next-total))
 
--- what was seen, line by line
-abbrev pub seenText : Seen → List ℕ
-seenText r = linesOf (events r) ++ text (L.Stopped (stopOf (ruleIn (r .stop))) (r .consumed))
+-- an event that an end owes shows nothing: it ends where all is consumed
+owed-ends : (d : DetectState) {e : ParseEvent} → stateOwes d ≡ owes e → EndsAt 0 e
+owed-ends D.WaitingSignature h = never cc
+owed-ends D.WaitingBoxHeader h = never cc
+owed-ends (D.WaitingJxlpIndex l) h = never cc
+owed-ends (D.WaitingInnerType l) h = never cc
+owed-ends (D.InAuxBox t ToEnd) {e} h = let same : E.AuxBoxEnd t ≡ e = cc in subst (EndsAt 0) same tt
+owed-ends (D.InAuxBox t (Bytes n)) {e} h = go (eqb n 0) h
+  where
+    go : (b : Bool) → if b (owes (E.AuxBoxEnd t)) missing ≡ owes e → EndsAt 0 e
+    go true h = let same : E.AuxBoxEnd t ≡ e = cc in subst (EndsAt 0) same tt
+    go false h = never cc
+owed-ends (D.InCodestream k ToEnd true) {e} h = let same : E.NoMoreAuxBox ≡ e = cc in subst (EndsAt 0) same tt
+owed-ends (D.InCodestream k ToEnd false) h = never cc
+owed-ends (D.InCodestream k (Bytes n) pending) {e} h = go (eqb n 0) h
+  where
+    go : (b : Bool) → if b (owes (E.Codestream 0 0)) missing ≡ owes e → EndsAt 0 e
+    go true h = let same : E.Codestream 0 0 ≡ e = cc in subst (EndsAt 0) same refl
+    go false h = never cc
+owed-ends (D.Refused k r) h = never cc
+
+close-ends : (p : BoxParser) (u : List ℕ) {e : ParseEvent} → closeOf p u ≡ owes e → EndsAt 0 e
+close-ends p [] {e} h = go (or (unknown (kindOf p)) (rowOpen (p .jxlp))) h
+  where
+    go : (b : Bool) → if b missing (stateOwes (p .state)) ≡ owes e → EndsAt 0 e
+    go true h = never cc
+    go false h = owed-ends (p .state) h
+close-ends p (x ∷ u) h = never cc
+
+-- so its place in the file is there
+owed-in-file : (p : ContainerParser) (u : List ℕ) {es : List FileEvent} {q : ContainerParser} → endOf p u ≡ done es q → inFiles es ≡ placedAt (p .total) es
+owed-in-file p u {es} {q} e = go (stands p)
+  where
+    none-owed : [] ≡ es → inFiles es ≡ placedAt (p .total) es
+    none-owed h = subst (λ (l : List FileEvent). inFiles l ≡ placedAt (p .total) l) h refl
+
+    by-close : (w : Close) → closeOf (p .boxes) u ≡ w → closing p w ≡ done es q → inFiles es ≡ placedAt (p .total) es
+    by-close missing c h = never cc
+    by-close (owes x) c h =
+        let same : carrying x (p .total) ∷ [] ≡ es = cc in
+        let there : EndsAt (p .total) (shifted (p .total) x) =
+        subst (λ (m : ℕ). EndsAt m (shifted (p .total) x)) (add-zero (p .total)) (ends-further (p .total) 0 x (close-ends (p .boxes) u c)) in
+        let placed-there : inFile (carrying x (p .total)) ≡ further (p .total) (carrying x (p .total)) =
+        sym (in-file-anywhere (p .total) (carrying x (p .total))) ∙ in-file-there (further (p .total) (carrying x (p .total))) there in
+        subst (λ (l : List FileEvent). inFiles l ≡ placedAt (p .total) l) same (ap (λ (d : FileEvent). d ∷ []) placed-there)
+    by-close nothing c h = let none : [] ≡ es = cc in none-owed none
+
+    by-again : (r : BoxRefusal) (t : Bool) → if t (done [] p) (refuses (refusalOf r p) p) ≡ done es q → inFiles es ≡ placedAt (p .total) es
+    by-again r true k = let none : [] ≡ es = cc in none-owed none
+    by-again r false k = never cc
+
+    go : Stands p → inFiles es ≡ placedAt (p .total) es
+    go (open-still o) = by-close (closeOf (p .boxes) u) refl (sym (end-open p u o) ∙ e)
+    go (held {r = r} h) = by-again r (isClosed r) (sym (end-again u h) ∙ e)
+
+-- at most one
+one-owed : {n : ℕ} {e : FileEvent} {es : List FileEvent} → Owed n (e ∷ es) → es ≡ []
+one-owed (one t) = refl
+
+-- what was seen of the file, and ended, line by line
+abbrev pub endingOf : Seen → List ℕ → Ended
+endingOf r f = endOf (r .next) (drop (r .consumed) f)
+
+abbrev pub seenText : Seen → List ℕ → List ℕ
+seenText r f = linesOf (events r) ++ endText (endingOf r f) (r .consumed)
 
 -- the text of all that is still to come of the file, of which the record's total is consumed, and how many events it has
 abbrev pub Rest : ContainerParser → List ℕ → List ℕ
-Rest p f = seenText (Feeding.take p (drop (p .total) f))
+Rest p f = seenText (Feeding.take p (drop (p .total) f)) f
 
 abbrev pub countIn : ContainerParser → List ℕ → ℕ
-countIn p f = count p (p .total) f
+countIn p f = let r = Feeding.take p (drop (p .total) f) in length (events r ++ owedBy 0 (endingOf r f))
 
 -- what comes behind an event that is shown
 pub record Follows (p : ContainerParser) (f : List ℕ) (e : ParseEvent) (q : ContainerParser) : Type 0 where
@@ -110,12 +192,78 @@ pub record Follows (p : ContainerParser) (f : List ℕ) (e : ParseEvent) (q : Co
   pub inside : q .total ≤ length f
   pub fewer : countIn p f ≡ suc (countIn q f)
 
+-- a record that was ended: nothing but the stop is to come
+module _ (q : ContainerParser) (f : List ℕ) (h : Holds q Rule.Closed) where
+  closed-take : Feeding.take q (drop (q .total) f) ≡ Feeding.stops (Feeding.refused (refusalOf Rule.Closed q)) q (q .total)
+  closed-take = take-is (ends (step-again (drop (q .total) f) h)) ∙ ap (Feeding.stops (Feeding.refused (refusalOf Rule.Closed q)) q) (add-zero (q .total))
+
+  closed-rest : Rest q f ≡ text (L.Stopped S.Done (q .total))
+  closed-rest = ap (λ (r : Seen). seenText r f) closed-take ∙ ap (λ (e : Ended). endText e (q .total)) (end-again (drop (q .total) f) h)
+
+  closed-count : countIn q f ≡ 0
+  closed-count = ap (λ (r : Seen). length (events r ++ owedBy 0 (endingOf r f))) closed-take ∙ ap (λ (e : Ended). length (owedBy 0 e)) (end-again (drop (q .total) f) h)
+
+-- where a step does not show an event: the end call, from the record r behind c bytes
+module _ (p : ContainerParser) (f : List ℕ) (w : Stop) (r : ContainerParser) (c : ℕ)
+    (seen : Feeding.take p (drop (p .total) f) ≡ Feeding.stops w r (p .total + c)) (count : r .total ≡ p .total + c) (fits : p .total + c ≤ length f) where
+  abbrev u : List ℕ
+  u = drop c (drop (p .total) f)
+
+  ended-as : {x : Ended} → endOf r u ≡ x → endingOf (Feeding.take p (drop (p .total) f)) f ≡ x
+  ended-as e = ap (λ (s : Seen). endingOf s f) seen ∙ ap (endOf r) (sym (drop-drop c (p .total) f)) ∙ e
+
+  rest-ended : {x : Ended} → endOf r u ≡ x → Rest p f ≡ endText x (r .total)
+  rest-ended {x} e =
+      ap (λ (s : Seen). linesOf (events s) ++ endText (endingOf (Feeding.take p (drop (p .total) f)) f) (s .consumed)) seen
+      ∙ (λ i. endText (ended-as e i) (sym count i))
+
+  ended-shown : {e : ParseEvent} {q : ContainerParser} → nextEnd (endOf r u) ≡ N.Shown e q → Follows p f e q
+  ended-shown {e} {q} n = go (endOf r u) refl n
+    where
+      one-event : (d : FileEvent) (es : List FileEvent) (o : ContainerParser) → es ≡ [] → endOf r u ≡ done (d ∷ es) o → inFile d .event ≡ e → o ≡ q → Follows p f e q
+      one-event d es o none k event same =
+          let last : endOf r u ≡ done (d ∷ []) o = k ∙ ap (λ (l : List FileEvent). done (d ∷ l) o) none in
+          let closed = done-holds r u last in
+          let keeps = rw last at (end-keeps r u) in
+          let total : o .total ≡ r .total = keeps .1 .1 in
+          let then : Follows p f e o =
+          record {
+            text-is = rest-ended last ∙ append-assoc (text (L.Shown (inFile d .event))) [] (text (L.Stopped S.Done (r .total))) ∙ (λ i. text (L.Shown (event i)) ++ sym (closed-rest o f closed ∙ ap (λ (m : ℕ). text (L.Stopped S.Done m)) total) i);
+            inside = omega (arith, total, count, fits);
+            fewer = ap (λ (s : Seen). length (events s ++ owedBy 0 (endingOf (Feeding.take p (drop (p .total) f)) f))) seen ∙ ap (λ (x : Ended). length (owedBy 0 x)) (ended-as last) ∙ ap suc (sym (closed-count o f closed));
+          } in
+          subst (Follows p f e) same then
+
+      go : (x : Ended) → endOf r u ≡ x → nextEnd x ≡ N.Shown e q → Follows p f e q
+      go (done [] o) k n = never cc
+      go (done (d ∷ es) o) k n =
+          let event : inFile d .event ≡ e = cc in
+          let same : o ≡ q = cc in
+          one-event d es o (one-owed ((rw k at (end-keeps r u)) .0)) k event same
+      go (refuses x o) k n = never cc
+
+  ended-stopped : {v : StopWord} {q : ContainerParser} → nextEnd (endOf r u) ≡ N.Stopped v q → Rest p f ≡ text (L.Stopped v (q .total))
+  ended-stopped {v} {q} n = go (endOf r u) refl n
+    where
+      go : (x : Ended) → endOf r u ≡ x → nextEnd x ≡ N.Stopped v q → Rest p f ≡ text (L.Stopped v (q .total))
+      go (done [] o) k n =
+          let word : S.Done ≡ v = cc in
+          let same : o ≡ q = cc in
+          let total : r .total ≡ q .total = sym ((rw k at (end-keeps r u)) .1 .1) ∙ ap (λ (x : ContainerParser). x .total) same in
+          rest-ended k ∙ (λ i. text (L.Stopped (word i) (total i)))
+      go (done (d ∷ es) o) k n = never cc
+      go (refuses x o) k n =
+          let word : printed (why (x .rule)) ≡ v = cc in
+          let same : o ≡ q = cc in
+          let total : r .total ≡ q .total = sym ((rw k at (end-keeps r u)) .1) ∙ ap (λ (x : ContainerParser). x .total) same in
+          rest-ended k ∙ (λ i. text (L.Stopped (word i) (total i)))
+
 module _ (p : ContainerParser) (f : List ℕ) where
   -- an event's line, and the rest
   pub following-shown : p .total ≤ length f → {e : ParseEvent} {q : ContainerParser} → nextOf p (drop (p .total) f) ≡ N.Shown e q → Follows p f e q
   following-shown h {e} {q} n = go (stepOf p (drop (p .total) f)) refl n
     where
-      go : (t : Told) → stepOf p (drop (p .total) f) ≡ t → nextIn t ≡ N.Shown e q → Follows p f e q
+      go : (t : Told) → stepOf p (drop (p .total) f) ≡ t → nextIn (drop (p .total) f) t ≡ N.Shown e q → Follows p f e q
       go (shows d r c) st n =
           let counts = shown-counts p (drop (p .total) f) st in
           let event : inFile d .event ≡ e = cc in
@@ -127,39 +275,56 @@ module _ (p : ContainerParser) (f : List ℕ) where
           ∙ ap (λ (x : ContainerParser). followed (placed (p .total) (drop (p .total) f) d c ∷ []) (Feeding.take x (drop (x .total) f))) parser in
           record {
             text-is =
-                ap seenText taken
+                ap (λ (r : Seen). seenText r f) taken
                 ∙ append-assoc (text (L.Shown (further (p .total) d .event))) (linesOf (events (Feeding.take q (drop (q .total) f)))) _
                 ∙ ap (λ (x : ParseEvent). text (L.Shown x) ++ Rest q f) placed-at;
             inside = omega (arith, shown-fits p f (p .total) h st, counts .next-total, ap (λ (x : ContainerParser). x .total) parser);
-            fewer = ap (λ (x : Seen). length (x .shown)) taken;
+            fewer = ap (λ (r : Seen). length (events r ++ owedBy 0 (endingOf r f))) taken;
           }
-      go (wants r c) st n = absurd (let z : _≡_ {A = ℕ} 0 1 = cc in omega arith)
-      go (refuses x r c) st n = absurd (let z : _≡_ {A = ℕ} 0 1 = cc in omega arith)
+      go (wants r c) st n = ended-shown p f Feeding.want r c (take-is (waits st)) (wants-counts p (drop (p .total) f) st .0) (wants-fits p f (p .total) h st) n
+      go (Step.refuses x r c) st n =
+          ended-shown p f (Feeding.refused x) r c (take-is (ends st)) (refuses-counts p (drop (p .total) f) st .0) (refuses-fits p f (p .total) h st) n
 
   -- the stop's line, and nothing more
-  pub following-stopped : {w : StopWord} {q : ContainerParser} → nextOf p (drop (p .total) f) ≡ N.Stopped w q → Rest p f ≡ text (L.Stopped w (q .total))
-  following-stopped {w} {q} n = go (stepOf p (drop (p .total) f)) refl n
+  pub following-stopped : p .total ≤ length f → {w : StopWord} {q : ContainerParser} → nextOf p (drop (p .total) f) ≡ N.Stopped w q → Rest p f ≡ text (L.Stopped w (q .total))
+  following-stopped h {w} {q} n = go (stepOf p (drop (p .total) f)) refl n
     where
-      go : (t : Told) → stepOf p (drop (p .total) f) ≡ t → nextIn t ≡ N.Stopped w q → Rest p f ≡ text (L.Stopped w (q .total))
-      go (shows d r c) st n = absurd (let z : _≡_ {A = ℕ} 0 1 = cc in omega arith)
-      go (wants r c) st n =
-          let stop : S.Want ≡ w = cc in
-          let parser : r ≡ q = cc in
-          let place : p .total + c ≡ q .total = sym (wants-counts p (drop (p .total) f) st .0) ∙ ap (λ (x : ContainerParser). x .total) parser in
-          ap seenText (take-is (waits st)) ∙ (λ i. text (L.Stopped (stop i) (place i)))
-      go (refuses x r c) st n =
-          let stop : printed (why (x .rule)) ≡ w = cc in
-          let parser : r ≡ q = cc in
-          let place : p .total + c ≡ q .total = sym (refuses-counts p (drop (p .total) f) st .0) ∙ ap (λ (x : ContainerParser). x .total) parser in
-          ap seenText (take-is (ends st)) ∙ (λ i. text (L.Stopped (stop i) (place i)))
+      go : (t : Told) → stepOf p (drop (p .total) f) ≡ t → nextIn (drop (p .total) f) t ≡ N.Stopped w q → Rest p f ≡ text (L.Stopped w (q .total))
+      go (shows d r c) st n = never cc
+      go (wants r c) st n = ended-stopped p f Feeding.want r c (take-is (waits st)) (wants-counts p (drop (p .total) f) st .0) (wants-fits p f (p .total) h st) n
+      go (Step.refuses x r c) st n =
+          ended-stopped p f (Feeding.refused x) r c (take-is (ends st)) (refuses-counts p (drop (p .total) f) st .0) (refuses-fits p f (p .total) h st) n
+
+-- the lines of two rows of events
+pub texts-append : (xs ys : List ParseEvent) → texts (xs ++ ys) ≡ texts xs ++ texts ys
+texts-append [] ys = refl
+texts-append (x ∷ xs) ys = ap (λ (l : List ℕ). text (L.Shown x) ++ l) (texts-append xs ys) ∙ sym (append-assoc (text (L.Shown x)) (texts xs) (texts ys))
+
+-- what was seen, with its events, and ended, is the text of the outcome
+pub outcome-text : (r : Seen) (u : List ℕ) → r .next .total ≡ r .consumed
+    → listingText (outcome (finishedBy r (endOf (r .next) u))) ≡ linesOf (joined (events r)) ++ endText (endOf (r .next) u) (r .consumed)
+outcome-text r u t = go (endOf (r .next) u) refl
+  where
+    es : List ParseEvent
+    es = withoutTotals (joined (events r))
+
+    go : (x : Ended) → endOf (r .next) u ≡ x → listingText (outcome (finishedBy r x)) ≡ texts es ++ endText x (r .consumed)
+    go (done os q) k =
+        let there : placedAt (r .consumed) os ≡ inFiles os = ap (λ (n : ℕ). placedAt n os) (sym t) ∙ sym (owed-in-file (r .next) u k) in
+        ap (λ (l : List ℕ). l ++ text (L.Stopped S.Done (r .consumed))) (texts-append es (withoutTotals (placedAt (r .consumed) os)))
+        ∙ append-assoc (texts es) (linesOf (placedAt (r .consumed) os)) (text (L.Stopped S.Done (r .consumed)))
+        ∙ ap (λ (l : List FileEvent). texts es ++ (linesOf l ++ text (L.Stopped S.Done (r .consumed)))) there
+    go (refuses w q) k = ap (λ (l : List ParseEvent). texts l ++ text (L.Stopped (printed (why (w .rule))) (r .consumed))) (append-nil es)
 
 -- all of it
 pub rest-file : (f : List ℕ) → Rest fresh f ≡ fileText f
 unfolding fileText
 rest-file f =
     let seen = Feeding.take fresh f in
-    ap (λ (l : List FileEvent). linesOf l ++ text (L.Stopped (stopOf (ruleIn (seen .stop))) (seen .consumed))) (sym (nothing-to-join fresh f))
-    ∙ ap listingText (whole-file f)
+    let total : seen .next .total ≡ seen .consumed = ap (λ (r : Seen). r .next .total) (sym (whole-feed fresh f)) ∙ total-of-packets fresh (f ∷ []) ∙ ap (λ (r : Seen). r .consumed) (whole-feed fresh f) in
+    ap (λ (l : List FileEvent). linesOf l ++ endText (endingOf seen f) (seen .consumed)) (sym (nothing-to-join fresh f))
+    ∙ sym (outcome-text seen (drop (seen .consumed) f) total)
+    ∙ ap listingText (ends-as-listed f (drop (seen .consumed) f) seen refl (settles refl (takes fresh 0 f .1)) ∙ ap endedListing (whole-file f))
 
 -- a listing that fits, and one that does not
 pub list-fits : (d w : List ℕ) → length w ≤ length d → listOf d w ≡ leaves (Written (length w)) (pasted d 0 w)

@@ -5,7 +5,7 @@ use jxl_joiner::Joiner;
 use jxl_lines::StopWord;
 use jxl_totals::ContainerParser;
 
-// What comes next: an event with its place in the file, or the stop; and the record then.
+// What comes next: an event with its place in the file, the one that the end call owes too, or the stop; and the record then.
 pub enum AfterStep {
     Shown {
         event: ParseEvent,
