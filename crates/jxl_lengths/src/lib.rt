@@ -56,6 +56,9 @@ pub fn line_length(line: Line) -> usize
             StopWord::Refused1 => 15 + digits(consumed),
             StopWord::Refused2 => 15 + digits(consumed),
             StopWord::Limit => 12 + digits(consumed),
+            StopWord::Done => 11 + digits(consumed),
+            StopWord::CutShort => 15 + digits(consumed),
+            StopWord::Closed => 13 + digits(consumed),
         },
     }
 }

@@ -142,14 +142,3 @@ pub fn put_words(out: &mut [u8], at: usize, words: &[u8]) -> Put
     }
     Put::NoRoom(words.len())
 }
-
-// Puts the decimal digits of `n` at `at` if all of them fit there; otherwise the buffer stays as it was, and their count is told.
-pub fn put_number(out: &mut [u8], at: usize, n: usize) -> Put
-    ensures { λ r. ⌜ leaves r (now (out .exit)) ≡ putOf (now (out .entry)) at (decimal n) ⌝ }
-{
-    let digits = jxl_lengths::digits(n);
-    if has_room(out.len(), at, digits) {
-        return Put::Written(write_decimal(out, at, n));
-    }
-    Put::NoRoom(digits)
-}

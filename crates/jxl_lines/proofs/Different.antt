@@ -12,7 +12,7 @@ use Rattle.jxl_events.specs.declared.ParseEvent.the-variants as E
 use Rattle.jxl_lines.specs.Lines.{kindWord, brobWord, endWord, stopWord, fields, InRange}
 use Rattle.jxl_lines.specs.Theorems.{NoTwoAlike}
 use Rattle.jxl_lines.specs.declared.StopWord.{StopWord}
-use Rattle.jxl_lines.specs.declared.StopWord.the-variants.{Want, Refused1, Refused2, Limit}
+use Rattle.jxl_lines.specs.declared.StopWord.the-variants.{Want, Refused1, Refused2, Limit, Done, CutShort, Closed}
 use Rattle.jxl_lines.specs.declared.Line.{Line}
 use Rattle.jxl_lines.specs.declared.Line.the-variants.{Shown, Stopped}
 use Rattle.jxl_lines.proofs.Values.{value, decimal-value, type-value}
@@ -28,7 +28,12 @@ kindOf w =
     (if (eqb (letter w 0) 99) K.Container K.Invalid))
 
 abbrev stopOf : List ℕ → StopWord
-stopOf w = if (eqb (letter w 0) 119) Want (if (eqb (letter w 0) 108) Limit (if (eqb (letter w 7) 49) Refused1 Refused2))
+stopOf w =
+    if (eqb (letter w 0) 119) Want
+    (if (eqb (letter w 0) 108) Limit
+    (if (eqb (letter w 0) 100) Done
+    (if (eqb (letter w 0) 99) (if (eqb (letter w 1) 117) CutShort Closed)
+    (if (eqb (letter w 7) 49) Refused1 Refused2))))
 
 abbrev field : List (List ℕ) → ℕ → List ℕ
 field fs i = getD fs i []
@@ -72,6 +77,9 @@ stop-back Want = refl
 stop-back Refused1 = refl
 stop-back Refused2 = refl
 stop-back Limit = refl
+stop-back Done = refl
+stop-back CutShort = refl
+stop-back Closed = refl
 
 back-fields : (l : Line) → InRange l → back (fields l) ≡ l
 back-fields (Shown (E.BitstreamKind k)) h = cc (kind-back k)

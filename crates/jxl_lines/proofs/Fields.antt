@@ -13,7 +13,7 @@ use Rattle.jxl_events.specs.declared.ParseEvent.the-variants as E
 use Rattle.jxl_lines.specs.Digits.{glyph, hexDigits, hex8, decimalIn, decimal}
 use Rattle.jxl_lines.specs.Lines.{kindWord, brobWord, endWord, stopWord, fields, rest, text}
 use Rattle.jxl_lines.specs.declared.StopWord.{StopWord}
-use Rattle.jxl_lines.specs.declared.StopWord.the-variants.{Want, Refused1, Refused2, Limit}
+use Rattle.jxl_lines.specs.declared.StopWord.the-variants.{Want, Refused1, Refused2, Limit, Done, CutShort, Closed}
 use Rattle.jxl_lines.specs.declared.Line.{Line}
 use Rattle.jxl_lines.specs.declared.Line.the-variants.{Shown, Stopped}
 
@@ -88,6 +88,9 @@ stop-clean Want = refl
 stop-clean Refused1 = refl
 stop-clean Refused2 = refl
 stop-clean Limit = refl
+stop-clean Done = refl
+stop-clean CutShort = refl
+stop-clean Closed = refl
 
 fields-clean : (l : Line) → allClean (fields l) ≡ true
 fields-clean (Shown (E.BitstreamKind k)) = both (kind-clean k) refl

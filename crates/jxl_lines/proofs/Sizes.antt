@@ -12,7 +12,7 @@ use Rattle.jxl_lines.specs.Digits.{decimal}
 use Rattle.jxl_lines.specs.Lines.{kindWord, brobWord, endWord, stop, stopWord, rest, text}
 use Rattle.jxl_lines.specs.Theorems.{MostBytes, LeastBytes}
 use Rattle.jxl_lines.specs.declared.StopWord.{StopWord}
-use Rattle.jxl_lines.specs.declared.StopWord.the-variants.{Want, Refused1, Refused2, Limit}
+use Rattle.jxl_lines.specs.declared.StopWord.the-variants.{Want, Refused1, Refused2, Limit, Done, CutShort, Closed}
 use Rattle.jxl_lines.specs.declared.Line.the-variants.{Shown, Stopped}
 use Rattle.jxl_lines.proofs.Numbers.{decimal-most, type-length}
 
@@ -41,6 +41,9 @@ stop-most Want = omega arith
 stop-most Refused1 = omega arith
 stop-most Refused2 = omega arith
 stop-most Limit = omega arith
+stop-most Done = omega arith
+stop-most CutShort = omega arith
+stop-most Closed = omega arith
 
 pub start-size : (t : ℕ) (b e : Bool) → length (text (Shown (E.AuxBoxStart t b e))) ≡ 17 + length (brobWord b) + length (endWord e)
 start-size t b e = simp length-append (omega (arith, type-length t))

@@ -11,7 +11,7 @@ use Rattle.jxl_events.specs.declared.ParseEvent.{ParseEvent}
 use Rattle.jxl_events.specs.declared.ParseEvent.the-variants as E
 use Rattle.jxl_lines.specs.Digits.{hex8, decimal}
 use Rattle.jxl_lines.specs.declared.StopWord.{StopWord}
-use Rattle.jxl_lines.specs.declared.StopWord.the-variants.{Want, Refused1, Refused2, Limit}
+use Rattle.jxl_lines.specs.declared.StopWord.the-variants.{Want, Refused1, Refused2, Limit, Done, CutShort, Closed}
 use Rattle.jxl_lines.specs.declared.Line.{Line}
 use Rattle.jxl_lines.specs.declared.Line.the-variants.{Shown, Stopped}
 
@@ -60,16 +60,23 @@ abbrev pub endWord : Bool → List ℕ
 endWord true = 116 ∷ 111 ∷ 101 ∷ 110 ∷ 100 ∷ []
 endWord false = 98 ∷ 111 ∷ 117 ∷ 110 ∷ 100 ∷ 101 ∷ 100 ∷ []
 
--- `want`, `refused1`, `refused2` or `limit`
+-- `want`, `refused1`, `refused2`, `limit`, `done`, `cutshort` or `closed`
 abbrev pub stopWord : StopWord → List ℕ
 stopWord Want = 119 ∷ 97 ∷ 110 ∷ 116 ∷ []
 stopWord Refused1 = 114 ∷ 101 ∷ 102 ∷ 117 ∷ 115 ∷ 101 ∷ 100 ∷ 49 ∷ []
 stopWord Refused2 = 114 ∷ 101 ∷ 102 ∷ 117 ∷ 115 ∷ 101 ∷ 100 ∷ 50 ∷ []
 stopWord Limit = 108 ∷ 105 ∷ 109 ∷ 105 ∷ 116 ∷ []
+stopWord Done = 100 ∷ 111 ∷ 110 ∷ 101 ∷ []
+stopWord CutShort = 99 ∷ 117 ∷ 116 ∷ 115 ∷ 104 ∷ 111 ∷ 114 ∷ 116 ∷ []
+stopWord Closed = 99 ∷ 108 ∷ 111 ∷ 115 ∷ 101 ∷ 100 ∷ []
 
--- the word of a refusal by its number: 1, 20 (StreamLimit), or else 2, the only other one
+-- the word of a refusal by its number: 1, 20 (StreamLimit), 21 (CutShort), 22 (Closed), or else 2, the only other one
 abbrev pub refusedWord : Why → StopWord
-refusedWord (refusal n values) = if (eqb n 1) Refused1 (if (eqb n 20) Limit Refused2)
+refusedWord (refusal n values) =
+    if (eqb n 1) Refused1
+    (if (eqb n 20) Limit
+    (if (eqb n 21) CutShort
+    (if (eqb n 22) Closed Refused2)))
 
 -- what is printed of a refusal: numbers 10 to 19 are merged back into 1
 abbrev pub printed : Why → StopWord

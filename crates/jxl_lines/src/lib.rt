@@ -5,22 +5,28 @@ ghost use mathlib.Core.Path.{_≡_};
 ghost use Rattle.jxl_refusals.specs.Refusals.{why};
 ghost use Rattle.jxl_lines.specs.Lines.{printed};
 
-// Why a listing ends, as it is printed: more is wanted, a refusal by its number in document 01, or the limit of a file.
+// Why a listing ends, or a turn of one, as it is printed: more is wanted, which only a turn says; a refusal by its number in document 01; the
+// limit of a file; its end, with nothing missing or with something; or that the parser had been ended before.
 pub enum StopWord {
     Want,
     Refused1,
     Refused2,
     Limit,
+    Done,
+    CutShort,
+    Closed,
 }
 
 impl StopWord {
-    // What is printed of a refusal.
+    // What is printed of a refusal, and of Closed, which is none.
     pub fn refused(refusal: BoxRefusal) -> StopWord
         ensures { λ r. ⌜ r ≡ printed (why refusal) ⌝ }
     {
         match refusal {
             BoxRefusal::ValidationFailed => StopWord::Refused2,
             BoxRefusal::StreamLimit => StopWord::Limit,
+            BoxRefusal::CutShort => StopWord::CutShort,
+            BoxRefusal::Closed => StopWord::Closed,
             BoxRefusal::ShortSize => StopWord::Refused1,
             BoxRefusal::ExtendedSize => StopWord::Refused1,
             BoxRefusal::SecondJxlc => StopWord::Refused1,

@@ -8,7 +8,7 @@ use Rattle.jxl_events.specs.declared.ParseEvent.the-variants as E
 use Rattle.jxl_lines.specs.Lines.{brobWord, endWord, rest, stop, stopWord, text}
 use Rattle.jxl_lines.specs.declared.Line.the-variants.{Shown}
 use Rattle.jxl_lines.specs.declared.StopWord.{StopWord}
-use Rattle.jxl_lines.specs.declared.StopWord.the-variants.{Want, Refused1, Refused2, Limit}
+use Rattle.jxl_lines.specs.declared.StopWord.the-variants.{Want, Refused1, Refused2, Limit, Done, CutShort, Closed}
 
 -- the line that tells what the file is
 abbrev pub kindLine : BitstreamKind → List ℕ
@@ -29,4 +29,6 @@ abbrev pub stopStart : StopWord → List ℕ
 stopStart s = stop ++ (9 ∷ (stopWord s ++ (9 ∷ [])))
 
 abbrev pub stops : List ℕ
-stops = stopStart Want ++ stopStart Refused1 ++ stopStart Refused2 ++ stopStart Limit
+stops =
+    stopStart Want ++ stopStart Refused1 ++ stopStart Refused2 ++ stopStart Limit ++ stopStart Done ++ stopStart CutShort
+    ++ stopStart Closed

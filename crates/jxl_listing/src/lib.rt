@@ -154,6 +154,9 @@ fn stop_part(stop: StopWord) -> Part
         StopWord::Refused1 => Part(10, 24),
         StopWord::Refused2 => Part(24, 38),
         StopWord::Limit => Part(38, 49),
+        StopWord::Done => Part(49, 59),
+        StopWord::CutShort => Part(59, 73),
+        StopWord::Closed => Part(73, 85),
     }
 }
 
@@ -169,7 +172,10 @@ fn put_stop(out: &mut [u8], at: usize, stop: StopWord) -> usize
         b"stop\twant\t\
           stop\trefused1\t\
           stop\trefused2\t\
-          stop\tlimit\t",
+          stop\tlimit\t\
+          stop\tdone\t\
+          stop\tcutshort\t\
+          stop\tclosed\t",
         part,
     )
 }

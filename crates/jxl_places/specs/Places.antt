@@ -83,6 +83,8 @@ broken Rule.BrobTooSmall = behindHeader brob
 broken Rule.ImpossibleRecord = inNone
 broken Rule.ValidationFailed = behindFour brob
 broken Rule.StreamLimit = inNone
+broken Rule.CutShort = inNone
+broken Rule.Closed = inNone
 
 -- the place that a refusal names: the first byte of the header that it concerns, where a box starts; or, with none, the total
 abbrev pub NamedIn : Broken → List ℕ → FileRefusal → Type 0

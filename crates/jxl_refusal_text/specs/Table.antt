@@ -19,9 +19,11 @@ fixedText R.BrobTooSmall = text R.BrobTooSmall
 fixedText R.ImpossibleRecord = text R.ImpossibleRecord
 fixedText R.ValidationFailed = text R.ValidationFailed
 fixedText R.StreamLimit = text R.StreamLimit
+fixedText R.CutShort = text R.CutShort
+fixedText R.Closed = text R.Closed
 
 abbrev pub texts : List ℕ
 texts =
     text R.ShortSize ++ text R.ExtendedSize ++ text R.SecondJxlc ++ text R.JxlcAfterJxlp ++ text R.JxlpTooSmall
     ++ text R.JxlpAfterJxlc ++ text R.JxlpAfterLast ++ text R.BrobTooSmall ++ text R.ImpossibleRecord
-    ++ text R.ValidationFailed ++ text R.StreamLimit
+    ++ text R.ValidationFailed ++ text R.StreamLimit ++ text R.CutShort ++ text R.Closed

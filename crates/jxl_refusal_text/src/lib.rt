@@ -80,6 +80,8 @@ fn text_part(refusal: BoxRefusal) -> Part
         BoxRefusal::ImpossibleRecord => Part(166, 183),
         BoxRefusal::ValidationFailed => Part(183, 204),
         BoxRefusal::StreamLimit => Part(204, 253),
+        BoxRefusal::CutShort => Part(253, 267),
+        BoxRefusal::Closed => Part(267, 291),
     }
 }
 
@@ -101,7 +103,9 @@ fn put_text(out: &mut [u8], at: usize, refusal: BoxRefusal) -> Put
           brob too small for its type\
           impossible record\
           reserved type in brob\
-          more bytes than the 2^63 - 1 that a file may have",
+          more bytes than the 2^63 - 1 that a file may have\
+          file cut short\
+          parser closed by its end",
         part,
     )
 }

@@ -10,7 +10,7 @@ use lib.ListN.{getD, drop}
 use borrow.Author.Tests.{ltb-true, ltb-false, ne-eqb}
 use Rattle.jxl_headers.specs.Bytes.{if}
 use Rattle.jxl_refusals.specs.declared.BoxRefusal.{BoxRefusal}
-use Rattle.jxl_refusals.specs.declared.BoxRefusal.the-variants.{ShortSize, ExtendedSize, SecondJxlc, JxlcAfterJxlp, JxlpTooSmall, JxlpAfterJxlc, JxlpAfterLast, WrongIndex, BrobTooSmall, ImpossibleRecord, ValidationFailed, StreamLimit}
+use Rattle.jxl_refusals.specs.declared.BoxRefusal.the-variants.{ShortSize, ExtendedSize, SecondJxlc, JxlcAfterJxlp, JxlpTooSmall, JxlpAfterJxlc, JxlpAfterLast, WrongIndex, BrobTooSmall, ImpossibleRecord, ValidationFailed, StreamLimit, CutShort, Closed}
 use Rattle.jxl_lines.specs.Digits.{glyph, decimal}
 use Rattle.jxl_lines.proofs.Numbers.{decimal-small, decimal-more}
 use Rattle.jxl_lines.proofs.Values.{value, decimal-value}
@@ -86,7 +86,9 @@ back w =
     (if (eqb (mark w) 217) (indexBack w)
     (if (eqb (mark w) 214) BrobTooSmall
     (if (eqb (mark w) 226) ImpossibleRecord
-    (if (eqb (mark w) 199) StreamLimit ValidationFailed)))))))))
+    (if (eqb (mark w) 199) StreamLimit
+    (if (eqb (mark w) 200) CutShort
+    (if (eqb (mark w) 229) Closed ValidationFailed)))))))))))
 
 again : (r : BoxRefusal) → back (text r) ≡ r
 again ShortSize = refl
@@ -102,6 +104,8 @@ again BrobTooSmall = refl
 again ImpossibleRecord = refl
 again ValidationFailed = refl
 again StreamLimit = refl
+again CutShort = refl
+again Closed = refl
 
 pub no-two-alike : NoTwoAlike
 no-two-alike r q e = sym (again r) ∙ ap back e ∙ again q

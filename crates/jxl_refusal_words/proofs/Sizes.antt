@@ -7,7 +7,7 @@ use native.Mathlib.Omega.{arith}
 use lib.Dec.{ltb}
 use lib.ListN.{length, length-append}
 use borrow.Author.Tests.{ltb-true, ltb-false}
-use Rattle.jxl_refusals.specs.declared.BoxRefusal.the-variants.{ShortSize, ExtendedSize, SecondJxlc, JxlcAfterJxlp, JxlpTooSmall, JxlpAfterJxlc, JxlpAfterLast, WrongIndex, BrobTooSmall, ImpossibleRecord, ValidationFailed, StreamLimit}
+use Rattle.jxl_refusals.specs.declared.BoxRefusal.the-variants.{ShortSize, ExtendedSize, SecondJxlc, JxlcAfterJxlp, JxlpTooSmall, JxlpAfterJxlc, JxlpAfterLast, WrongIndex, BrobTooSmall, ImpossibleRecord, ValidationFailed, StreamLimit, CutShort, Closed}
 use Rattle.jxl_lines.specs.Digits.{decimal}
 use Rattle.jxl_lines.proofs.Numbers.{decimal-small, decimal-longer, decimal-most}
 use Rattle.jxl_refusal_words.specs.Text.{text}
@@ -42,3 +42,5 @@ most-bytes BrobTooSmall h = omega arith
 most-bytes ImpossibleRecord h = omega arith
 most-bytes ValidationFailed h = omega arith
 most-bytes StreamLimit h = omega arith
+most-bytes CutShort h = omega arith
+most-bytes Closed h = omega arith

@@ -1,8 +1,9 @@
--- The texts of refusals, for a fault log: one for each rule. A wrong index tells both numbers, decimal. No line feed ends a text.
+-- The texts of refusals, for a fault log: one for each rule, and one for Closed. A wrong index tells both numbers, decimal. No line feed
+-- ends a text.
 use mathlib.Core.List.{List, [], _∷_, _++_}
 use Prim.Native.Nat.{ℕ, _^_, _<_}
 use Rattle.jxl_refusals.specs.declared.BoxRefusal.{BoxRefusal}
-use Rattle.jxl_refusals.specs.declared.BoxRefusal.the-variants.{ShortSize, ExtendedSize, SecondJxlc, JxlcAfterJxlp, JxlpTooSmall, JxlpAfterJxlc, JxlpAfterLast, WrongIndex, BrobTooSmall, ImpossibleRecord, ValidationFailed, StreamLimit}
+use Rattle.jxl_refusals.specs.declared.BoxRefusal.the-variants.{ShortSize, ExtendedSize, SecondJxlc, JxlcAfterJxlp, JxlpTooSmall, JxlpAfterJxlc, JxlpAfterLast, WrongIndex, BrobTooSmall, ImpossibleRecord, ValidationFailed, StreamLimit, CutShort, Closed}
 use Rattle.jxl_lines.specs.Digits.{decimal}
 
 -- `box size from 2 to 7`
@@ -61,6 +62,14 @@ validationFailed = 114 ∷ 101 ∷ 115 ∷ 101 ∷ 114 ∷ 118 ∷ 101 ∷ 100 �
 abbrev pub streamLimit : List ℕ
 streamLimit = 109 ∷ 111 ∷ 114 ∷ 101 ∷ 32 ∷ 98 ∷ 121 ∷ 116 ∷ 101 ∷ 115 ∷ 32 ∷ 116 ∷ 104 ∷ 97 ∷ 110 ∷ 32 ∷ 116 ∷ 104 ∷ 101 ∷ 32 ∷ 50 ∷ 94 ∷ 54 ∷ 51 ∷ 32 ∷ 45 ∷ 32 ∷ 49 ∷ 32 ∷ 116 ∷ 104 ∷ 97 ∷ 116 ∷ 32 ∷ 97 ∷ 32 ∷ 102 ∷ 105 ∷ 108 ∷ 101 ∷ 32 ∷ 109 ∷ 97 ∷ 121 ∷ 32 ∷ 104 ∷ 97 ∷ 118 ∷ 101 ∷ []
 
+-- `file cut short`
+abbrev pub cutShort : List ℕ
+cutShort = 102 ∷ 105 ∷ 108 ∷ 101 ∷ 32 ∷ 99 ∷ 117 ∷ 116 ∷ 32 ∷ 115 ∷ 104 ∷ 111 ∷ 114 ∷ 116 ∷ []
+
+-- `parser closed by its end`
+abbrev pub closed : List ℕ
+closed = 112 ∷ 97 ∷ 114 ∷ 115 ∷ 101 ∷ 114 ∷ 32 ∷ 99 ∷ 108 ∷ 111 ∷ 115 ∷ 101 ∷ 100 ∷ 32 ∷ 98 ∷ 121 ∷ 32 ∷ 105 ∷ 116 ∷ 115 ∷ 32 ∷ 101 ∷ 110 ∷ 100 ∷ []
+
 -- the text of a refusal; of a wrong index as in `jxlp index 3 where 2 was expected`
 abbrev pub text : BoxRefusal → List ℕ
 text ShortSize = shortSize
@@ -75,6 +84,8 @@ text BrobTooSmall = brobTooSmall
 text ImpossibleRecord = impossibleRecord
 text ValidationFailed = validationFailed
 text StreamLimit = streamLimit
+text CutShort = cutShort
+text Closed = closed
 
 -- the index found fits 32 bits and the one expected 64, as those of the code do
 abbrev pub InRange : BoxRefusal → Type 0
@@ -90,3 +101,5 @@ InRange BrobTooSmall = Unit {0}
 InRange ImpossibleRecord = Unit {0}
 InRange ValidationFailed = Unit {0}
 InRange StreamLimit = Unit {0}
+InRange CutShort = Unit {0}
+InRange Closed = Unit {0}

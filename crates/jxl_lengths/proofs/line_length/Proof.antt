@@ -100,6 +100,33 @@ digits-requires-8 c κs = search needs
 add-result-8 : tie.Need-add-result-8
 add-result-8 c = search needs
 
+enum-told-11 : tie.Need-enum-told-11
+enum-told-11 c = search needs
+
+digits-requires-9 : tie.Need-digits-requires-9
+digits-requires-9 c κs = search needs
+
+add-result-9 : tie.Need-add-result-9
+add-result-9 c = search needs
+
+enum-told-12 : tie.Need-enum-told-12
+enum-told-12 c = search needs
+
+digits-requires-10 : tie.Need-digits-requires-10
+digits-requires-10 c κs = search needs
+
+add-result-10 : tie.Need-add-result-10
+add-result-10 c = search needs
+
+enum-told-13 : tie.Need-enum-told-13
+enum-told-13 c = search needs
+
+digits-requires-11 : tie.Need-digits-requires-11
+digits-requires-11 c κs = search needs
+
+add-result-11 : tie.Need-add-result-11
+add-result-11 c = search needs
+
 returns : tie.Need-returns
 returns c = search needs
 
@@ -148,6 +175,15 @@ returns-15 c = rw (c .before .before .before .before .line2 .given .1, stop-size
 returns-16 : tie.Need-returns-16
 returns-16 c = rw (c .before .before .before .before .line2 .given .1, stop-size, c .before .enum-told10 .given .1) (omega arith)
 
+returns-17 : tie.Need-returns-17
+returns-17 c = rw (c .before .before .before .before .line2 .given .1, stop-size, c .before .enum-told11 .given .1) (omega arith)
+
+returns-18 : tie.Need-returns-18
+returns-18 c = rw (c .before .before .before .before .line2 .given .1, stop-size, c .before .enum-told12 .given .1) (omega arith)
+
+returns-19 : tie.Need-returns-19
+returns-19 c = rw (c .before .before .before .before .line2 .given .1, stop-size, c .before .enum-told13 .given .1) (omega arith)
+
 pub line-length-spec : {M : Type 1} → statement M
 line-length-spec =
     tie.close
@@ -184,6 +220,15 @@ line-length-spec =
     enum-told-10
     digits-requires-8
     add-result-8
+    enum-told-11
+    digits-requires-9
+    add-result-9
+    enum-told-12
+    digits-requires-10
+    add-result-10
+    enum-told-13
+    digits-requires-11
+    add-result-11
     returns
     returns-2
     returns-3
@@ -199,4 +244,7 @@ line-length-spec =
     returns-13
     returns-14
     returns-15
-    returns-16)
+    returns-16
+    returns-17
+    returns-18
+    returns-19)

@@ -39,6 +39,12 @@ enum-told-11 c = c .match .keys11
 enum-told-12 : tie.Need-enum-told-12
 enum-told-12 c = c .match .keys12
 
+enum-told-13 : tie.Need-enum-told-13
+enum-told-13 c = c .match .keys13
+
+enum-told-14 : tie.Need-enum-told-14
+enum-told-14 c = c .match .keys14
+
 returns : tie.Need-returns
 returns c = rw (c .enum-told .given .1) record { ordered = omega arith; within = omega arith; bytes = refl }
 
@@ -75,6 +81,12 @@ returns-11 c = rw (c .enum-told11 .given .1) record { ordered = omega arith; wit
 returns-12 : tie.Need-returns-12
 returns-12 c = rw (c .enum-told12 .given .1) record { ordered = omega arith; within = omega arith; bytes = refl }
 
+returns-13 : tie.Need-returns-13
+returns-13 c = rw (c .enum-told13 .given .1) record { ordered = omega arith; within = omega arith; bytes = refl }
+
+returns-14 : tie.Need-returns-14
+returns-14 c = rw (c .enum-told14 .given .1) record { ordered = omega arith; within = omega arith; bytes = refl }
+
 pub text-part-spec : {M : Type 1} → statement M
 text-part-spec =
     tie.close
@@ -91,6 +103,8 @@ text-part-spec =
     enum-told-10
     enum-told-11
     enum-told-12
+    enum-told-13
+    enum-told-14
     returns
     returns-2
     returns-3
@@ -102,4 +116,6 @@ text-part-spec =
     returns-9
     returns-10
     returns-11
-    returns-12)
+    returns-12
+    returns-13
+    returns-14)
