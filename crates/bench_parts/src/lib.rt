@@ -75,6 +75,12 @@ pub fn events(
             } => {
                 return sum;
             }
+            StepResult::Closed {
+                next: _,
+                consumed: _,
+            } => {
+                return sum;
+            }
         }
         steps += 1;
     }

@@ -1,5 +1,6 @@
 // What feeding a file to the parser in packets shows, each behind the bytes that the feeds before left unread, as tokens of the stored lists.
 use jxl_container::BitstreamKind;
+use jxl_container::BoxRefusal;
 use jxl_container::ContainerParser;
 use jxl_container::FileEvent;
 use jxl_container::FileRefusal;
@@ -194,7 +195,7 @@ fn stopped(mut feed: Feed) -> Feed {
     feed
 }
 
-// The same behind a refusal that names `place`.
+// The same behind a refusal that names `place`, or behind Closed: no more is fed.
 fn refused(mut feed: Feed, place: u64) -> Feed {
     feed.place = place;
     feed.stopped = true;
@@ -235,6 +236,12 @@ fn turn(out: &mut [u8], file: &[u8], end: usize, feed: Feed) -> Feed {
             let counted = is_counted(total, consumed, next.total, refusal.total);
             let marked = box_lines::rule(out, behind, counted);
             refused(stepped(feed, next, consumed, kind, marked), refusal.place)
+        }
+        StepResult::Closed { next, consumed } => {
+            let behind = box_lines::refusal(out, to, BoxRefusal::Closed);
+            let counted = is_counted(total, consumed, next.total, next.total);
+            let marked = box_lines::rule(out, behind, counted);
+            refused(stepped(feed, next, consumed, kind, marked), next.total)
         }
     }
 }

@@ -55,6 +55,12 @@ fn feed(parser: ContainerParser, input: &[u8]) -> Fed
                     consumed: at + consumed,
                 };
             }
+            StepResult::Closed { next, consumed } => {
+                return Fed {
+                    parser: next,
+                    consumed: at + consumed,
+                };
+            }
         }
     }
 }

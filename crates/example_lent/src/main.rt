@@ -18,6 +18,7 @@ fn print(fed: Fed) {
             refusal: _,
             consumed,
         } => say(b"refused ", consumed),
+        Fed::Closed { consumed } => say(b"closed ", consumed),
     }
 }
 

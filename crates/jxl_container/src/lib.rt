@@ -1,5 +1,5 @@
 // One step of the container parser: the rules on boxes, on the input up to the limit of a file, with the bytes counted. A record by
-// value and a part of the input go in; an event, WANT or a refusal comes back, each with the next record and the bytes consumed.
+// value and a part of the input go in; an event, WANT, a refusal or Closed comes back, each with the next record and the bytes consumed.
 use jxl_counts::after;
 use jxl_counts::limited;
 use jxl_counts::refused;
@@ -15,6 +15,8 @@ ghost use Rattle.jxl_counts.specs.Told.{told};
 
 // What a user of the container needs, from one place.
 pub use jxl_counts::StepResult;
+pub use jxl_end::EndResult;
+pub use jxl_end::end;
 pub use jxl_events::FileEvent;
 pub use jxl_events::ParseEvent;
 pub use jxl_events::payload;

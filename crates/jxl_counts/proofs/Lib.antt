@@ -1,2 +1,3 @@
+mod Closed
 pub mod Unique
 pub mod Ruled

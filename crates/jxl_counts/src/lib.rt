@@ -1,6 +1,7 @@
 // What a step leaves, with its count: the record behind it, and a refusal with its total and its place. One small function for each;
 // jxl_container's step puts them together.
 use jxl_events::FileEvent;
+use jxl_marks::is_closed;
 use jxl_marks::place;
 use jxl_record::BoxParser;
 use jxl_record::DetectState;
@@ -29,6 +30,11 @@ pub enum StepResult {
         consumed: usize,
         refusal: FileRefusal,
     },
+    // The parser was ended; no refusal of the file.
+    Closed {
+        next: ContainerParser,
+        consumed: usize,
+    },
 }
 
 // A record of these three.
@@ -42,7 +48,7 @@ pub fn after(boxes: BoxParser, total: u64, header: u64) -> ContainerParser
     }
 }
 
-// A refusal, behind `total` bytes.
+// A refusal, behind `total` bytes; or Closed, of a parser that was ended.
 pub fn refused(
     rule: BoxRefusal,
     boxes: BoxParser,
@@ -52,6 +58,12 @@ pub fn refused(
 ) -> StepResult
     ensures { λ r. ⌜ told r ≡ numbered (Spec.refusing rule (Spec.counted boxes total header) consumed) ⌝ }
 {
+    if is_closed(rule) {
+        return StepResult::Closed {
+            next: after(boxes, total, header),
+            consumed,
+        };
+    }
     StepResult::Refused {
         next: after(boxes, total, header),
         consumed,

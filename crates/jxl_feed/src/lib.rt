@@ -22,6 +22,10 @@ pub enum Fed {
         refusal: FileRefusal,
         consumed: usize,
     },
+    // The parser was ended.
+    Closed {
+        consumed: usize,
+    },
 }
 
 // A step's answer, with the parser apart from the rest.
@@ -54,6 +58,10 @@ fn step_apart(input: &[u8], parser: ContainerParser) -> Apart
         } => Apart {
             next,
             fed: Fed::Refused { refusal, consumed },
+        },
+        StepResult::Closed { next, consumed } => Apart {
+            next,
+            fed: Fed::Closed { consumed },
         },
     }
 }

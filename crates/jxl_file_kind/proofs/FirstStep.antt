@@ -35,6 +35,7 @@ left-there : (f : Fed) (q : ContainerParser) → nextOf (toldFed f q) ≡ q
 left-there (A.Shown e n) q = refl
 left-there (A.Want n) q = refl
 left-there (A.Refused r n) q = refl
+left-there (A.Closed n) q = refl
 
 -- the one that the rules on boxes leave, whose kind is the same, also where the limit is met
 abbrev nextBoxes : Boxes.Told → BoxParser

@@ -48,6 +48,10 @@ fn next(parser: ContainerParser, file: &[u8]) -> AfterStep
                 parser: next,
             }
         }
+        StepResult::Closed { next, consumed: _ } => AfterStep::Stopped {
+            stop: StopWord::Closed,
+            parser: next,
+        },
     }
 }
 

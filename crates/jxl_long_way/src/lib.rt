@@ -75,13 +75,8 @@ pub fn turn_from(parser: ContainerParser, joiner: Joiner, input: &[u8], out: &mu
                 }
             }
             StepResult::Want { next, consumed } => {
-                return after(
-                    next,
-                    j,
-                    k + consumed,
-                    t.written,
-                    TurnEnd::Stopped(StopWord::Want),
-                );
+                let want = TurnEnd::Stopped(StopWord::Want);
+                return after(next, j, k + consumed, t.written, want);
             }
             StepResult::Refused {
                 next,
@@ -91,6 +86,10 @@ pub fn turn_from(parser: ContainerParser, joiner: Joiner, input: &[u8], out: &mu
                 let rule = refusal.rule;
                 let stop = StopWord::refused(rule);
                 return after(next, j, k + consumed, t.written, TurnEnd::Stopped(stop));
+            }
+            StepResult::Closed { next, consumed } => {
+                let closed = TurnEnd::Stopped(StopWord::Closed);
+                return after(next, j, k + consumed, t.written, closed);
             }
         }
     }

@@ -7,6 +7,7 @@ ghost use mathlib.Core.Path.{_≡_};
 ghost use Prim.Native.Nat.{_-_, min};
 ghost use lib.Dec.{ltb};
 ghost use Rattle.jxl_headers.specs.Bytes.{if, and};
+ghost use Rattle.jxl_totals.specs.Naming.{isClosed};
 ghost use Rattle.jxl_totals.specs.Step as Spec;
 
 // How many bytes the file may still have.
@@ -100,5 +101,30 @@ pub fn place(rule: BoxRefusal, total: u64, header: u64) -> u64
         } => header,
         BoxRefusal::BrobTooSmall => header,
         BoxRefusal::ValidationFailed => header,
+    }
+}
+
+// Whether a parser stays at this because it was ended, and not because a rule broke.
+pub fn is_closed(rule: BoxRefusal) -> bool
+    ensures { λ r. ⌜ r ≡ isClosed rule ⌝ }
+{
+    match rule {
+        BoxRefusal::ShortSize => false,
+        BoxRefusal::ExtendedSize => false,
+        BoxRefusal::SecondJxlc => false,
+        BoxRefusal::JxlcAfterJxlp => false,
+        BoxRefusal::JxlpTooSmall => false,
+        BoxRefusal::JxlpAfterJxlc => false,
+        BoxRefusal::JxlpAfterLast => false,
+        BoxRefusal::WrongIndex {
+            found: _,
+            expected: _,
+        } => false,
+        BoxRefusal::BrobTooSmall => false,
+        BoxRefusal::ImpossibleRecord => false,
+        BoxRefusal::ValidationFailed => false,
+        BoxRefusal::StreamLimit => false,
+        BoxRefusal::CutShort => false,
+        BoxRefusal::Closed => true,
     }
 }

@@ -13,9 +13,10 @@ pub fn saturating_sum(a: usize, b: usize) -> usize
     }
 }
 
-// An upper bound on the events that `n` bytes in `k` packets, one at least, give, for sizing a queue; it saturates at 64 bits.
+// An upper bound on the events that `n` bytes in `k` packets, one at least, and the end call give, for sizing a queue; it saturates at
+// 64 bits.
 pub fn most_events(n: u64, k: u64) -> u64
     ensures { λ r. ⌜ r ≡ mostEvents n k ⌝ }
 {
-    saturating_sum((n / 3 + 2) as usize, k as usize) as u64
+    saturating_sum((n / 3 + 3) as usize, k as usize) as u64
 }

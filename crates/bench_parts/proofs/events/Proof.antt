@@ -33,4 +33,6 @@ events-spec =
     (search needs)
     (search needs)
     (search needs)
+    (search needs)
+    (search needs)
     (search needs))

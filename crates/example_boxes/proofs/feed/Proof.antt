@@ -62,8 +62,8 @@ loop-again c =
 enum-known-next-2 : tie.Need-enum-known-next-2 Inv-loop μ-loop
 enum-known-next-2 c = search needs
 
-add-t18 : tie.Need-add-t18 Inv-loop μ-loop
-add-t18 c =
+add-t20 : tie.Need-add-t20 Inv-loop μ-loop
+add-t20 c =
     let l = c .before .before .before .before .before .loop in
     let f = now (c .before .before .before .before .before .before .before .args .input) in
     let s = sym (ap ruled (c .before .next2 .given .1)) ∙ by-rule (c .before .before .before .step .result) _ (c .before .before .before .step .ensures) in
@@ -79,8 +79,8 @@ returns c =
 enum-known-next-3 : tie.Need-enum-known-next-3 Inv-loop μ-loop
 enum-known-next-3 c = search needs
 
-add-t19 : tie.Need-add-t19 Inv-loop μ-loop
-add-t19 c =
+add-t21 : tie.Need-add-t21 Inv-loop μ-loop
+add-t21 c =
     let l = c .before .before .before .before .before .loop in
     let f = now (c .before .before .before .before .before .before .before .args .input) in
     let s = sym (ap ruled (c .before .next3 .given .1)) ∙ by-rule (c .before .before .before .step .result) _ (c .before .before .before .step .ensures) in
@@ -91,6 +91,23 @@ returns-2 c =
     let l = c .before .before .before .before .before .loop in
     let f = now (c .before .before .before .before .before .before .before .args .input) in
     let s = sym (ap ruled (c .before .next3 .given .1)) ∙ by-rule (c .before .before .before .step .result) _ (c .before .before .before .step .ensures) in
+    fits (l .p) f (l .at) (l .inv) s
+
+enum-known-next-4 : tie.Need-enum-known-next-4 Inv-loop μ-loop
+enum-known-next-4 c = search needs
+
+add-t22 : tie.Need-add-t22 Inv-loop μ-loop
+add-t22 c =
+    let l = c .before .before .before .before .before .loop in
+    let f = now (c .before .before .before .before .before .before .before .args .input) in
+    let s = sym (ap ruled (c .before .next4 .given .1)) ∙ by-rule (c .before .before .before .step .result) _ (c .before .before .before .step .ensures) in
+    omega (arith, fits (l .p) f (l .at) (l .inv) s)
+
+returns-3 : tie.Need-returns-3 Inv-loop μ-loop
+returns-3 c =
+    let l = c .before .before .before .before .before .loop in
+    let f = now (c .before .before .before .before .before .before .before .args .input) in
+    let s = sym (ap ruled (c .before .next4 .given .1)) ∙ by-rule (c .before .before .before .step .result) _ (c .before .before .before .step .ensures) in
     fits (l .p) f (l .at) (l .inv) s
 
 pub feed-spec : {M : Type 1} → statement M
@@ -110,8 +127,11 @@ feed-spec =
     loop-less
     loop-again
     enum-known-next-2
-    add-t18
+    add-t20
     returns
     enum-known-next-3
-    add-t19
-    returns-2)
+    add-t21
+    returns-2
+    enum-known-next-4
+    add-t22
+    returns-3)

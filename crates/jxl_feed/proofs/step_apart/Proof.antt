@@ -18,6 +18,9 @@ enum-known-next-2 c = search needs
 enum-known-next-3 : tie.Need-enum-known-next-3
 enum-known-next-3 c = search needs
 
+enum-known-next-4 : tie.Need-enum-known-next-4
+enum-known-next-4 c = search needs
+
 returns : tie.Need-returns
 returns c = ap told (sym (c .before .next .given .1)) ∙ c .before .before .before .step .ensures
 
@@ -27,6 +30,9 @@ returns-2 c = ap told (sym (c .before .next2 .given .1)) ∙ c .before .before .
 returns-3 : tie.Need-returns-3
 returns-3 c = ap told (sym (c .before .next3 .given .1)) ∙ c .before .before .before .step .ensures
 
+returns-4 : tie.Need-returns-4
+returns-4 c = ap told (sym (c .before .next4 .given .1)) ∙ c .before .before .before .step .ensures
+
 pub step-apart-spec : {M : Type 1} → statement M
 step-apart-spec =
     tie.close
@@ -35,6 +41,8 @@ step-apart-spec =
     enum-known-next
     enum-known-next-2
     enum-known-next-3
+    enum-known-next-4
     returns
     returns-2
-    returns-3)
+    returns-3
+    returns-4)

@@ -33,6 +33,9 @@ enum-known-next-3 c = search needs
 refused-requires : tie.Need-refused-requires
 refused-requires c κs = search needs
 
+enum-known-next-4 : tie.Need-enum-known-next-4
+enum-known-next-4 c = search needs
+
 returns : tie.Need-returns
 returns c =
     let a = c .before .before .before .before .before .before .before .args in
@@ -50,6 +53,11 @@ returns-3 c =
     let st = far (a .parser) (now (a .file)) (a .parser .total) (c .before .before .before .before .before .before .before .pre) (by-rule (c .before .before .before .before .step .result) _ (c .before .before .before .before .step .ensures)) (ap ruled (c .before .before .next3 .given .1)) in
     rw (st, c .refused .ensures)
 
+returns-4 : tie.Need-returns-4
+returns-4 c =
+    let a = c .before .before .before .before .before .before .args in
+    rw (far (a .parser) (now (a .file)) (a .parser .total) (c .before .before .before .before .before .before .pre) (by-rule (c .before .before .before .step .result) _ (c .before .before .before .step .ensures)) (ap ruled (c .before .next4 .given .1)))
+
 pub next-spec : {M : Type 1} → statement M
 next-spec =
     tie.close
@@ -63,6 +71,8 @@ next-spec =
     enum-known-next-2
     enum-known-next-3
     refused-requires
+    enum-known-next-4
     returns
     returns-2
-    returns-3)
+    returns-3
+    returns-4)

@@ -4,7 +4,8 @@ use native.Mathlib.Omega.{arith}
 use lib.ListN.{length, drop}
 use denote.Ref.{now}
 use borrow.Author.Needs.{needs}
-use Rattle.jxl_totals.specs.Step.{shows, wants, refuses, stepOf}
+use Rattle.jxl_refusals.specs.declared.BoxRefusal.the-variants as Rule
+use Rattle.jxl_totals.specs.Step.{shows, wants, refuses, refusalOf, stepOf}
 use Rattle.jxl_totals.specs.Feeding.{Seen}
 use Rattle.jxl_counts.proofs.Ruled.{ruled, by-rule}
 use Rattle.jxl_joiner.specs.declared.Joiner.{Joiner}
@@ -43,6 +44,13 @@ refused : (c : tie.After-next3 Inv-loop μ-loop) → let t = c .before .before .
 refused c =
     let l = c .before .before .before .before .before .before .loop in
     far (l .t .parser) (now (c .before .before .before .before .before .before .before .before .before .before .before .args .input)) (l .t .consumed) (l .inv .inside) (by-rule (c .before .before .step .result) _ (c .before .before .step .ensures)) (ap ruled (c .next3 .given .1))
+
+-- Closed, which is a refusal by the rule Closed
+closed : (c : tie.After-next4 Inv-loop μ-loop) → let t = c .before .before .before .before .before .before .loop .t in
+    let n = c .next4 .given .0 in stepOf (t .parser) (drop (t .consumed) (now (c .before .before .before .before .before .before .before .before .before .before .before .args .input))) ≡ refuses (refusalOf Rule.Closed (n .0)) (n .0) (n .1 .0)
+closed c =
+    let l = c .before .before .before .before .before .before .loop in
+    far (l .t .parser) (now (c .before .before .before .before .before .before .before .before .before .before .before .args .input)) (l .t .consumed) (l .inv .inside) (by-rule (c .before .before .step .result) _ (c .before .before .step .ensures)) (ap ruled (c .next4 .given .1))
 
 -- where the loop starts
 started : (c : tie.After-after Inv-loop μ-loop) → let a = c .before .before .before .before .args in
@@ -177,6 +185,27 @@ returns-3 c =
     (going-refused (now (a .input)) (now (a .out)) _ (l .out) (l .t) (l .inv) (refused (c .before .before .before))
     (c .after4 .ensures ∙ ap (λ (x : StopWord). leaving (n .0) (l .t .joiner) (l .t .consumed + n .1 .0) (l .t .written) (TurnEnd.Stopped x)) (c .before .refused .ensures)))
 
+enum-known-next-4 : tie.Need-enum-known-next-4 Inv-loop μ-loop
+enum-known-next-4 c = search needs
+
+add-after-4 : tie.Need-add-after-4 Inv-loop μ-loop
+add-after-4 c =
+    let l = c .before .before .before .before .before .before .before .loop in
+    omega (arith, refuses-fits (l .t .parser) (now (c .before .before .before .before .before .before .before .before .before .before .before .before .args .input)) (l .t .consumed) (l .inv .inside) (closed (c .before)), c .before .before .before .before .before .before .before .before .before .before .before .before .good .1 .1 .0 .0)
+
+after-requires-5 : tie.Need-after-requires-5 Inv-loop μ-loop
+after-requires-5 c κs = search needs
+
+same-length-4 : tie.Need-same-length-4 Inv-loop μ-loop
+same-length-4 c = c .before .before .before .before .before .before .before .before .loop .inv .same
+
+returns-4 : tie.Need-returns-4 Inv-loop μ-loop
+returns-4 c =
+    let a = c .before .before .before .before .before .before .before .before .before .before .before .before .before .args in
+    let l = c .before .before .before .before .before .before .before .before .loop in
+    subst (Told (c .after5 .result) (l .out) (now (a .out))) (started (c .before .before .before .before .before .before .before .before .before))
+    (going-refused (now (a .input)) (now (a .out)) _ (l .out) (l .t) (l .inv) (closed (c .before .before)) (c .after5 .ensures))
+
 pub turn-from-spec : {M : Type 1} → statement M
 turn-from-spec =
     tie.close
@@ -211,4 +240,9 @@ turn-from-spec =
     add-after-3
     after-requires-4
     same-length-3
-    returns-3)
+    returns-3
+    enum-known-next-4
+    add-after-4
+    after-requires-5
+    same-length-4
+    returns-4)
