@@ -10,7 +10,7 @@ use Rattle.jxl_record.specs.declared.DetectState.{DetectState}
 use Rattle.jxl_record.specs.declared.DetectState.the-variants as S
 use Rattle.jxl_record.proofs.DetectState as States
 use Rattle.jxl_grammar.specs.End.{closeOf}
-use Rattle.jxl_totals.specs.End.{closing, endIn}
+use Rattle.jxl_endings.specs.End.{closing, endIn}
 use Rattle.jxl_totals.specs.declared.ContainerParser.{ContainerParser}
 
 pub not-refused : (s : DetectState) (p : ContainerParser) (u : List ℕ) → OneOf (0 ∷ 1 ∷ 2 ∷ 3 ∷ 4 ∷ 5 ∷ []) (tagOf States.the-type s)

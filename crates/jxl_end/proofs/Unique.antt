@@ -5,7 +5,7 @@ use Rattle.jxl_joiner.specs.Joiner.{handed}
 use Rattle.jxl_joiner.specs.declared.MaybeEvent.{MaybeEvent}
 use Rattle.jxl_joiner.specs.declared.MaybeEvent.the-variants.{None, Some}
 use Rattle.jxl_totals.specs.Naming.{saysRefusal}
-use Rattle.jxl_totals.specs.End.{endOf, numberedEnd}
+use Rattle.jxl_endings.specs.End.{endOf, numberedEnd}
 use Rattle.jxl_counts.proofs.Unique.{says-tells}
 use Rattle.jxl_end.specs.Told.{toldEnd}
 use Rattle.jxl_end.specs.Theorems.{OneEnd}

@@ -3,7 +3,7 @@ use mathlib.Core.Path.{_≡_}
 use mathlib.Core.List.{List}
 use Prim.Native.Nat.{ℕ}
 use Rattle.jxl_base.specs.OneAnswer.{OneAnswer}
-use Rattle.jxl_totals.specs.End.{endOf, numberedEnd}
+use Rattle.jxl_endings.specs.End.{endOf, numberedEnd}
 use Rattle.jxl_totals.specs.declared.ContainerParser.{ContainerParser}
 use Rattle.jxl_end.specs.Told.{toldEnd}
 

@@ -12,7 +12,7 @@ use jxl_refusals::BoxRefusal;
 use jxl_totals::ContainerParser;
 use jxl_totals::FileRefusal;
 ghost use mathlib.Core.Path.{_≡_};
-ghost use Rattle.jxl_totals.specs.End as Spec;
+ghost use Rattle.jxl_endings.specs.End as Spec;
 ghost use Rattle.jxl_owed.specs.Told.{toldClose};
 ghost use Rattle.jxl_end.specs.Told.{toldEnd};
 

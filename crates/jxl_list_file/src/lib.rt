@@ -2,7 +2,7 @@
 use jxl_container::ContainerParser;
 use jxl_container::StepResult;
 use jxl_lines::Line;
-use jxl_lines::StopWord;
+use jxl_list_end::next_at_end;
 use jxl_list_rules::AfterStep;
 use jxl_listing::Put;
 use jxl_queue::saturating_sum;
@@ -12,9 +12,19 @@ ghost use lib.ListN.{length, drop};
 ghost use Rattle.jxl_lines.specs.Lines.{text};
 ghost use Rattle.jxl_lines.specs.Pasting.{pasted};
 ghost use Rattle.jxl_lines.specs.Putting.{leaves};
-ghost use Rattle.jxl_list_rules.specs.Listed.{fileText, listOf, nextOf};
+ghost use Rattle.jxl_endings.specs.End.{endOf};
+ghost use Rattle.jxl_list_rules.specs.Listed.{fileText, listOf, nextEnd, nextOf};
 
-// One step on the file behind the bytes consumed, which the record counts.
+// What comes next where the parser stopped: what the end call says, made with the bytes behind those consumed, which the record counts.
+fn at_end(parser: ContainerParser, file: &[u8]) -> AfterStep
+    requires { ⌜ parser .total ≤ length (now file) ⌝ }
+    ensures { λ r. ⌜ r ≡ nextEnd (endOf parser (drop (parser .total) (now (file .entry)))) ⌝ }
+{
+    let at = parser.total as usize;
+    next_at_end(parser, &file[at..])
+}
+
+// What comes next of the file behind the bytes consumed: an event, or what its end comes to.
 fn next(parser: ContainerParser, file: &[u8]) -> AfterStep
     requires { ⌜ parser .total ≤ length (now file) ⌝ }
     ensures { λ r. ⌜ r ≡ nextOf parser (drop (parser .total) (now (file .entry))) ⌝ }
@@ -33,25 +43,13 @@ fn next(parser: ContainerParser, file: &[u8]) -> AfterStep
                 parser: next,
             }
         }
-        StepResult::Want { next, consumed: _ } => AfterStep::Stopped {
-            stop: StopWord::Want,
-            parser: next,
-        },
+        StepResult::Want { next, consumed: _ } => at_end(next, file),
         StepResult::Refused {
             next,
             consumed: _,
-            refusal,
-        } => {
-            let rule = refusal.rule;
-            AfterStep::Stopped {
-                stop: StopWord::refused(rule),
-                parser: next,
-            }
-        }
-        StepResult::Closed { next, consumed: _ } => AfterStep::Stopped {
-            stop: StopWord::Closed,
-            parser: next,
-        },
+            refusal: _,
+        } => at_end(next, file),
+        StepResult::Closed { next, consumed: _ } => at_end(next, file),
     }
 }
 

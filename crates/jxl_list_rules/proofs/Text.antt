@@ -295,6 +295,29 @@ module _ (p : ContainerParser) (f : List ℕ) where
       go (Step.refuses x r c) st n =
           ended-stopped p f (Feeding.refused x) r c (take-is (ends st)) (refuses-counts p (drop (p .total) f) st .0) (refuses-fits p f (p .total) h st) n
 
+-- a step that does not show an event leads to the end call, made with the bytes behind those consumed
+module _ (p : ContainerParser) (f : List ℕ) (h : p .total ≤ length f) where
+  pub record Stops (q : ContainerParser) : Type 0 where
+    pub inside : q .total ≤ length f
+    pub next-is : nextOf p (drop (p .total) f) ≡ nextEnd (endOf q (drop (q .total) f))
+
+  stops-behind : (q : ContainerParser) (c : ℕ) → q .total ≡ p .total + c → p .total + c ≤ length f
+      → nextOf p (drop (p .total) f) ≡ nextEnd (endOf q (drop c (drop (p .total) f))) → Stops q
+  stops-behind q c t k n =
+      record { inside = omega arith; next-is = n ∙ ap (λ (u : List ℕ). nextEnd (endOf q u)) (drop-drop c (p .total) f ∙ ap (λ (m : ℕ). drop m f) (sym t)) }
+
+  pub stops-wanting : {q : ContainerParser} {c : ℕ} → stepOf p (drop (p .total) f) ≡ wants q c → Stops q
+  stops-wanting {q} {c} st =
+      stops-behind q c (wants-counts p (drop (p .total) f) st .0) (wants-fits p f (p .total) h st) (ap (nextIn (drop (p .total) f)) st)
+
+  pub stops-refusing : {r : FileRefusal} {q : ContainerParser} {c : ℕ} → stepOf p (drop (p .total) f) ≡ Step.refuses r q c → Stops q
+  stops-refusing {r} {q} {c} st =
+      stops-behind q c (refuses-counts p (drop (p .total) f) st .0) (refuses-fits p f (p .total) h st) (ap (nextIn (drop (p .total) f)) st)
+
+-- the end call on the bytes from k on
+pub far-end : (p : ContainerParser) (s : List ℕ) (k : ℕ) → endOf p (take (length s - k) (drop k s)) ≡ endOf p (drop k s)
+far-end p s k = ap (endOf p) (take-all (length s - k) (drop k s) (omega (arith, length-drop k s)))
+
 -- the lines of two rows of events
 pub texts-append : (xs ys : List ParseEvent) → texts (xs ++ ys) ≡ texts xs ++ texts ys
 texts-append [] ys = refl

@@ -1,4 +1,4 @@
-use Rattle.jxl_totals.specs.End.{endOf}
+use Rattle.jxl_endings.specs.End.{endOf}
 use borrow.Author.Needs.{needs}
 use Rattle.jxl_end.proofs.end.Statement.{statement}
 use Rattle.jxl_end.proofs.end.Tie as tie

@@ -1,7 +1,7 @@
 use mathlib.Core.Path.{sym, ap, _∙_}
 use denote.Ref.{now}
 use Rattle.jxl_grammar.specs.End.{Close}
-use Rattle.jxl_totals.specs.End.{closing, numberedEnd}
+use Rattle.jxl_endings.specs.End.{closing, numberedEnd}
 use Rattle.jxl_end.proofs.Taking.{not-refused}
 use borrow.Author.Needs.{needs}
 use Rattle.jxl_end.proofs.end_in.Statement.{statement}

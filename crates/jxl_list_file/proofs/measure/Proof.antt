@@ -78,7 +78,7 @@ returns c =
     let f = now (c .before .before .before .before .before .before .before .before .before .args .file) in
     let l = c .before .before .before .before .before .before .loop in
     let found : nextOf (l .parser) (drop (l .parser .total) f) ≡ N.Stopped (c .before .before .before .stop .given .0 .0) (c .before .before .before .stop .given .0 .1 .0) = sym (c .before .before .before .before .before .next .ensures) ∙ c .before .before .before .stop .given .1 in
-    let long : length (Rest (l .parser) f) ≡ c .before .line-length2 .result = ap length (following-stopped (l .parser) f found) ∙ sym (c .before .line-length2 .ensures) in
+    let long : length (Rest (l .parser) f) ≡ c .before .line-length2 .result = ap length (following-stopped (l .parser) f (l .inv .0) found) ∙ sym (c .before .line-length2 .ensures) in
     c .saturating-sum2 .ensures ∙ last-line (length (fileText f)) _ _ (l .sum) long (l .inv .1) (l .inv .2)
 
 pub measure-spec : {M : Type 1} → statement M

@@ -51,7 +51,7 @@ last c =
     let f = now (c .before .before .before .before .before .before .before .args .file) in
     let l = c .before .before .before .loop in
     let found : nextOf (l .parser) (drop (l .parser .total) f) ≡ N.Stopped (c .stop .given .0 .0) (c .stop .given .0 .1 .0) = sym (c .before .before .next .ensures) ∙ c .stop .given .1 in
-    l .inv .2 ∙ following-stopped (l .parser) f found ∙ sym (append-nil _)
+    l .inv .2 ∙ following-stopped (l .parser) f (l .inv .0) found ∙ sym (append-nil _)
 
 put-requires : tie.Need-put-requires Inv-loop μ-loop
 put-requires c κs =
