@@ -109,10 +109,11 @@ fn all_read(p: BoxParser) -> Close
 {
     let row = p.jxlp;
     let state = p.state;
+    let owed = state_owes(state);
     if unknown(p.kind()) || row_open(row) {
         return Close::Missing;
     }
-    state_owes(state)
+    owed
 }
 
 // What an end comes to.
