@@ -1,18 +1,34 @@
-// Lists a stream: reads it in blocks of at most 64 KiB, and writes the lines of each turn at once, joined across reads.
+// Lists a stream: reads it in blocks of at most 64 KiB, writes the lines of each turn at once, joined across reads, and makes the end call
+// where nothing more can be read.
 use jxl_container::ContainerParser;
 use jxl_joiner::Joiner;
 use jxl_joiner::MaybeEvent;
 use jxl_lines::Line;
 use jxl_lines::StopWord;
+use jxl_list_end::next_at_end;
+use jxl_list_rules::AfterStep;
 use jxl_list_turn::TurnEnd;
 use jxl_listing::Put;
 use jxl_slices::part;
 
-// What comes next: a turn on the bytes in the buffer, a read, or nothing.
+// What comes next: a turn on the bytes in the buffer, a read, the end of the listing, or nothing.
 enum Next {
     Turn,
     Read,
+    End,
     Nothing,
+}
+
+// A record to go on with, or none.
+enum MaybeParser {
+    None,
+    Some(ContainerParser),
+}
+
+// What a read leaves: the bytes in the buffer, and what comes next.
+struct Got {
+    upto: usize,
+    next: Next,
 }
 
 // Puts a line behind `at`, and answers where the next one goes.
@@ -23,70 +39,101 @@ fn put(out: &mut [u8], at: usize, line: Line) -> usize {
     }
 }
 
+// Writes one line, and answers whether it could.
+fn write_line(line: Line, out: &mut [u8]) -> bool {
+    let end = put(out, 0, line);
+    io::write_all(libc::STDOUT_FILENO, part(out, 0, end))
+}
+
 // Writes the line of the event that the joiner still holds, and answers whether it could.
 fn write_held(joiner: Joiner, out: &mut [u8]) -> bool {
     match joiner.finish() {
         MaybeEvent::None => true,
         MaybeEvent::Some(whole) => {
             let event = whole.event;
-            let end = put(out, 0, Line::Shown(event));
-            io::write_all(libc::STDOUT_FILENO, part(out, 0, end))
+            write_line(Line::Shown(event), out)
         }
     }
 }
 
-// Writes what is left: the line of the event held, then the stop's.
-fn write_stop(joiner: Joiner, out: &mut [u8], stop: StopWord, consumed: usize) {
-    if write_held(joiner, out) {
-        let end = put(out, 0, Line::Stopped { stop, consumed });
-        io::write_all(libc::STDOUT_FILENO, part(out, 0, end));
+// Writes the next line that the end call gives, and answers the record that is left to ask again: none behind the stop, or where the
+// line could not be written.
+fn write_next(parser: ContainerParser, unread: &[u8], out: &mut [u8]) -> MaybeParser {
+    match next_at_end(parser, unread) {
+        AfterStep::Shown {
+            event,
+            parser: ended,
+        } => {
+            if write_line(Line::Shown(event), out) {
+                MaybeParser::Some(ended)
+            } else {
+                MaybeParser::None
+            }
+        }
+        AfterStep::Stopped { stop, parser: last } => {
+            let consumed = last.total as usize;
+            write_line(Line::Stopped { stop, consumed }, out);
+            MaybeParser::None
+        }
     }
 }
 
-// Reads more behind the bytes not consumed, which move to the front, and answers how many bytes there are then. At the end of
-// the input the rest is written, and there are none.
+// Writes what is left: the line of the event held, that of the event still owed, if any, and the stop's. A refused parser has its
+// refusal to tell, and looks at no byte.
+fn write_end(parser: ContainerParser, joiner: Joiner, unread: &[u8], out: &mut [u8]) {
+    if write_held(joiner, out) {
+        match write_next(parser, unread, out) {
+            MaybeParser::None => {}
+            MaybeParser::Some(ended) => {
+                write_next(ended, unread, out);
+            }
+        }
+    }
+}
+
+// Reads more behind the bytes not consumed, which move to the front. Nothing more to read is the end of the listing; a read that fails
+// is told, and the lines so far stand, with no stop.
 fn read_more(
     joiner: Joiner,
-    consumed: usize,
     fd: i32,
     buf: &mut [u8],
     from: usize,
     upto: usize,
     out: &mut [u8],
-) -> usize {
+) -> Got {
     let unread = jxl_unread::keep(buf, from, upto);
     let got = libc::read(fd, &mut buf[unread..]);
     if got < 0 {
         os::fail(b"jxl-list: read");
         write_held(joiner, out);
-        return 0;
+        return Got {
+            upto: unread,
+            next: Next::Nothing,
+        };
     }
     if got == 0 {
-        write_stop(joiner, out, StopWord::Want, consumed);
-        return 0;
+        return Got {
+            upto: unread,
+            next: Next::End,
+        };
     }
-    std::num::wrapping_add_usize(unread, io::count(got, buf))
+    Got {
+        upto: std::num::wrapping_add_usize(unread, io::count(got, buf)),
+        next: Next::Turn,
+    }
 }
 
 // What follows a turn, whose lines are written first. A write that fails ends the listing.
-fn follow(joiner: Joiner, end: TurnEnd, written: usize, consumed: usize, out: &mut [u8]) -> Next {
+fn follow(end: TurnEnd, written: usize, out: &mut [u8]) -> Next {
     if !io::write_all(libc::STDOUT_FILENO, part(out, 0, written)) {
         return Next::Nothing;
     }
     match end {
         TurnEnd::Full => Next::Turn,
-        TurnEnd::Stopped(stop) => follow_stop(joiner, stop, consumed, out),
-    }
-}
-
-// What follows the parser's stop. After a refusal, the limit's too, the rest is written, and nothing more is read.
-fn follow_stop(joiner: Joiner, stop: StopWord, consumed: usize, out: &mut [u8]) -> Next {
-    match stop {
-        StopWord::Want => Next::Read,
-        StopWord::Refused1 | StopWord::Refused2 | StopWord::Limit => {
-            write_stop(joiner, out, stop, consumed);
-            Next::Nothing
-        }
+        TurnEnd::Stopped(stop) => match stop {
+            StopWord::Want => Next::Read,
+            _ => Next::End,
+        },
     }
 }
 
@@ -110,12 +157,17 @@ fn list_through(fd: i32, buf: &mut [u8], out: &mut [u8]) {
                 joiner = after.joiner;
                 from = std::num::wrapping_add_usize(from, after.consumed);
                 let end = after.end;
-                next = follow(joiner, end, after.written, parser.total as usize, out);
+                next = follow(end, after.written, out);
             }
             Next::Read => {
-                upto = read_more(joiner, parser.total as usize, fd, buf, from, upto, out);
+                let got = read_more(joiner, fd, buf, from, upto, out);
                 from = 0;
-                next = if upto == 0 { Next::Nothing } else { Next::Turn };
+                upto = got.upto;
+                next = got.next;
+            }
+            Next::End => {
+                write_end(parser, joiner, part(buf, from, upto), out);
+                return;
             }
             Next::Nothing => return,
         }

@@ -45,14 +45,8 @@ same-length-2 c = search needs
 returns : tie.Need-returns
 returns c = search needs
 
-write-stop-requires : tie.Need-write-stop-requires
-write-stop-requires c κs = search needs
-
 same-length-3 : tie.Need-same-length-3
 same-length-3 c = search needs
-
-same-length-4 : tie.Need-same-length-4
-same-length-4 c = search needs
 
 returns-2 : tie.Need-returns-2
 returns-2 c = search needs
@@ -63,8 +57,8 @@ count-requires c κs = search needs
 wrapping-add-usize-requires : tie.Need-wrapping-add-usize-requires
 wrapping-add-usize-requires c κs = search needs
 
-same-length-5 : tie.Need-same-length-5
-same-length-5 c = search needs
+same-length-4 : tie.Need-same-length-4
+same-length-4 c = search needs
 
 returns-3 : tie.Need-returns-3
 returns-3 c = search needs
@@ -84,11 +78,9 @@ read-more-spec =
     same-length
     same-length-2
     returns
-    write-stop-requires
     same-length-3
-    same-length-4
     returns-2
     count-requires
     wrapping-add-usize-requires
-    same-length-5
+    same-length-4
     returns-3)
