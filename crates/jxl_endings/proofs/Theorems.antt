@@ -32,7 +32,7 @@ use Rattle.jxl_totals.specs.declared.ContainerParser.{ContainerParser}
 use Rattle.jxl_totals.specs.declared.FileRefusal.{FileRefusal}
 use Rattle.jxl_endings.specs.End.{Ended, endOf}
 use Rattle.jxl_endings.specs.End as End
-use Rattle.jxl_endings.specs.Ended.{placedAt, owedBy, stopBy, nextBy, finishedBy, unreadOf, finished, events, EndedFile, endedAs, endedListing, outcome}
+use Rattle.jxl_endings.specs.Ended.{placedAt, owedBy, stopBy, nextBy, finishedBy, unreadOf, finished, events, EndedFile, endedAs, endedListing, ended, outcome}
 use Rattle.jxl_endings.specs.Ended as Stop
 use Rattle.jxl_endings.specs.Laws.{Owed, none, one, Kept}
 use Rattle.jxl_endings.specs.Theorems.{EveryEnd, EveryEndByName, Agrees, EveryCutEnded, DoneReadsAll, MostEventsEnded, AtMostMoreEnded}
@@ -103,8 +103,12 @@ by-rule xs =
     let all : r .consumed ≡ r .consumed - 0 = omega arith in
     ends-as-listed (bytesOf xs) (unreadOf fresh xs r) r (ap (λ (n : ℕ). drop n (bytesOf xs)) all) (feeding-settles fresh xs refl)
 
+-- by the rule that broke
+pub every-end-by-rule : (xs : List (List ℕ)) → outcome (finished fresh xs) ≡ ended (bytesOf xs)
+every-end-by-rule xs = by-rule xs ∙ ap endedListing (cut-file xs)
+
 pub every-end-by-name : EveryEndByName
-every-end-by-name name xs = ap (endedAs name) (by-rule xs ∙ ap endedListing (cut-file xs))
+every-end-by-name name xs = ap (endedAs name) (every-end-by-rule xs)
 
 pub every-end : EveryEnd
 every-end = every-end-by-name why

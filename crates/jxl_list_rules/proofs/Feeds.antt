@@ -33,20 +33,19 @@ lines-append (e ∷ es) b =
 -- at the stop the joiner hands back what it holds
 at-stop : (p : ContainerParser) (h : MaybeEvent) (x : Stop) (q : ContainerParser) (k n : ℕ) {w : StopWord} {e : TurnEnd} → p .total + k ≡ n → w ≡ stopOf (ruleIn x)
     → Feeds p h (stops x q n) w (over e q h k)
-at-stop p h x q k n there same = record { lines-are = refl; parser-is = refl; consumed-is = there; stop-is = same }
+at-stop p h x q k n there same = record { lines-are = λ es. refl; parser-is = refl; consumed-is = there; stop-is = same }
 
 -- an event's line goes in front of the others, as the joiner hands it back first
 one-more : {p : ContainerParser} {h : MaybeEvent} {w : StopWord} {f : Seen} {t : Turned} (at : ℕ) (s : List ℕ) (e : FileEvent) (c : ℕ) → Feeds p (heldThen h e) f w t
     → Feeds p h (followed (placed at s e c ∷ []) f) w (behind (lineOf h e) t)
 one-more {p} {h} {w} {f} {t} at s e c r =
     let l = lineOf h e in
-    let rest = events f in
     record {
       lines-are =
-          append-assoc l (t .lines) (linesOf (handed (t .held)))
-          ∙ ap (λ (x : List ℕ). l ++ x) (r .lines-are)
-          ∙ sym (lines-append (handed (adding h e .out)) (run (heldThen h e) rest))
-          ∙ ap (λ (x : Added). linesOf (handed (x .out) ++ run (x .next .held) rest)) (sym (adding-further h at e));
+          λ es. append-assoc l (t .lines) (linesOf (run (t .held) es))
+          ∙ ap (λ (x : List ℕ). l ++ x) (r .lines-are es)
+          ∙ sym (lines-append (handed (adding h e .out)) (run (heldThen h e) (events f ++ es)))
+          ∙ ap (λ (x : Added). linesOf (handed (x .out) ++ run (x .next .held) (events f ++ es))) (sym (adding-further h at e));
       parser-is = r .parser-is;
       consumed-is = r .consumed-is;
       stop-is = r .stop-is;

@@ -5,6 +5,7 @@ use Prim.Native.Nat.{ℕ, _+_, _^_, _<_, _≤_}
 use lib.ListN.{length, drop}
 use Rattle.jxl_base.specs.OneAnswer.{OneAnswer, OneAnswerAndBuffer}
 use Rattle.jxl_events.specs.Event.{lengthOf, placeOf}
+use Rattle.jxl_events.specs.declared.FileEvent.{FileEvent}
 use Rattle.jxl_totals.specs.Step.{limit}
 use Rattle.jxl_totals.specs.Feeding.{Seen, events}
 use Rattle.jxl_totals.specs.Feeding as Feeding
@@ -25,10 +26,11 @@ use Rattle.jxl_list_rules.specs.declared.TurnEnd.the-variants as TurnEnd
 abbrev pub ListingMergesBack : Type 0
 ListingMergesBack = (s : List ℕ) → length s ≤ limit → fileText s ≡ fileTextIn01 s
 
--- a turn that began with the event h held and stopped at w takes what feeding sees: the lines put, and the line of the event
--- held then, are those of the joiner run on the events seen
+-- a turn that began with the event h held and stopped at w takes what feeding sees: the lines put, and those of the joiner run from the
+-- event held then on any events that follow, are those of the joiner run on the events seen and these. With none that follow: the lines
+-- put and the line of the event held
 pub record Feeds (p : ContainerParser) (h : MaybeEvent) (seen : Seen) (w : StopWord) (t : Turned) : Type 0 where
-  pub lines-are : t .lines ++ linesOf (handed (t .held)) ≡ linesOf (run h (events seen))
+  pub lines-are : (es : List FileEvent) → t .lines ++ linesOf (run (t .held) es) ≡ linesOf (run h (events seen ++ es))
   pub parser-is : t .parser ≡ seen .next
   pub consumed-is : p .total + t .consumed ≡ seen .consumed
   pub stop-is : w ≡ stopOf (ruleIn (seen .stop))
