@@ -3,17 +3,21 @@ use mathlib.Core.Path.{_≡_, refl, sym, ap, _∙_, subst}
 use mathlib.Core.Bool.{Bool, true, false}
 use mathlib.Core.List.{List, [], _∷_}
 use Prim.Native.Nat.{ℕ}
+use lib.Dec.{eqb}
 use Rattle.jxl_headers.specs.Bytes.{if, or}
 use Rattle.jxl_refusals.specs.declared.BoxRefusal.{BoxRefusal}
 use Rattle.jxl_refusals.specs.declared.BoxRefusal.the-variants as Rule
-use Rattle.jxl_record.specs.Record.{at, refusedIn}
+use Rattle.jxl_record.specs.Record.{at, kindOf, refusedIn}
 use Rattle.jxl_impossible.specs.Impossible.{overIndex, noIndex, impossibleIn, impossible}
 use Rattle.jxl_record.specs.declared.BitstreamKind.{BitstreamKind}
+use Rattle.jxl_reach.specs.declared.BytesLeft.the-variants.{ToEnd, Bytes}
 use Rattle.jxl_record.specs.declared.JxlpIndexState.{JxlpIndexState}
 use Rattle.jxl_record.specs.declared.JxlpIndexState.the-variants.{Initial, SingleJxlc, Jxlp, JxlpFinished}
 use Rattle.jxl_record.specs.declared.DetectState.{DetectState}
 use Rattle.jxl_record.specs.declared.DetectState.the-variants as S
 use Rattle.jxl_record.specs.declared.BoxParser.{BoxParser}
+use Rattle.jxl_events.specs.declared.ParseEvent.{ParseEvent}
+use Rattle.jxl_events.specs.declared.ParseEvent.the-variants as E
 use Rattle.jxl_events.specs.declared.FileEvent.{FileEvent}
 use Rattle.jxl_grammar.specs.Laws.{Repeats}
 use Rattle.jxl_grammar.specs.Step as Rules
@@ -28,7 +32,7 @@ use Rattle.jxl_totals.proofs.Laws.{every-step, empty-feed}
 use Rattle.jxl_totals.specs.declared.ContainerParser.{ContainerParser}
 use Rattle.jxl_totals.specs.declared.FileRefusal.{FileRefusal}
 use Rattle.jxl_endings.specs.End.{Ended, done, refuses, stopped, closing, again, endIn, endOf}
-use Rattle.jxl_endings.specs.Laws.{DoneCloses, RefusedEndStays, EndRepeats, CutShortNames, Keeps, Owed, none, one, Kept, EndKeeps, ImpossibleIsCutShort}
+use Rattle.jxl_endings.specs.Laws.{DoneCloses, RefusedEndStays, EndRepeats, CutShortNames, Keeps, Owable, sideEnds, emptyCode, noMore, Owed, none, one, Kept, EndKeeps, ImpossibleIsCutShort}
 
 -- by the state: neither refused nor closed, or one that holds a rule
 end-open-in : (d : DetectState) (p : ContainerParser) (u : List ℕ) → refusedIn d ≡ false → endIn d p u ≡ closing p (closeOf (p .boxes) u)
@@ -198,20 +202,49 @@ cut-short-names p q u w o e = go (closeOf (p .boxes) u) (sym (end-open p u o) �
     go (owes x) h = never cc
     go nothing h = never cc
 
+-- what a record owes
+owed-by-state : (d : DetectState) {e : ParseEvent} → stateOwes d ≡ owes e → Owable e
+owed-by-state S.WaitingSignature h = never cc
+owed-by-state S.WaitingBoxHeader h = never cc
+owed-by-state (S.WaitingJxlpIndex l) h = never cc
+owed-by-state (S.WaitingInnerType l) h = never cc
+owed-by-state (S.InAuxBox t ToEnd) {e} h = let same : E.AuxBoxEnd t ≡ e = cc in subst Owable same sideEnds
+owed-by-state (S.InAuxBox t (Bytes n)) {e} h = go (eqb n 0) h
+  where
+    go : (b : Bool) → if b (owes (E.AuxBoxEnd t)) missing ≡ owes e → Owable e
+    go true h = let same : E.AuxBoxEnd t ≡ e = cc in subst Owable same sideEnds
+    go false h = never cc
+owed-by-state (S.InCodestream k ToEnd true) {e} h = let same : E.NoMoreAuxBox ≡ e = cc in subst Owable same noMore
+owed-by-state (S.InCodestream k ToEnd false) h = never cc
+owed-by-state (S.InCodestream k (Bytes n) pending) {e} h = go (eqb n 0) h
+  where
+    go : (b : Bool) → if b (owes (E.Codestream 0 0)) missing ≡ owes e → Owable e
+    go true h = let same : E.Codestream 0 0 ≡ e = cc in subst Owable same emptyCode
+    go false h = never cc
+owed-by-state (S.Refused k r) h = never cc
+
+owed-by-record : (p : BoxParser) (u : List ℕ) {e : ParseEvent} → closeOf p u ≡ owes e → Owable e
+owed-by-record p [] {e} h = go (or (unknown (kindOf p)) (rowOpen (p .jxlp))) h
+  where
+    go : (b : Bool) → if b missing (stateOwes (p .state)) ≡ owes e → Owable e
+    go true h = never cc
+    go false h = owed-by-state (p .state) h
+owed-by-record p (x ∷ u) h = never cc
+
 pub end-keeps : EndKeeps
 end-keeps p u = go (stands p)
   where
-    by-close : (c : Close) → Kept p (closing p c)
-    by-close missing = (refl, refl, refl)
-    by-close (owes x) = (one refl, (refl, refl, refl))
-    by-close nothing = (none, (refl, refl, refl))
+    by-close : (c : Close) → closeOf (p .boxes) u ≡ c → Kept p (closing p c)
+    by-close missing e = (refl, refl, refl)
+    by-close (owes x) e = (one (owed-by-record (p .boxes) u e) refl, (refl, refl, refl))
+    by-close nothing e = (none, (refl, refl, refl))
 
     by-again : (r : BoxRefusal) (t : Bool) → Kept p (if t (done [] p) (refuses (refusalOf r p) p))
     by-again r true = (none, (refl, refl, refl))
     by-again r false = (refl, refl, refl)
 
     go : Stands p → Kept p (endOf p u)
-    go (open-still o) = subst (Kept p) (sym (end-open p u o)) (by-close (closeOf (p .boxes) u))
+    go (open-still o) = subst (Kept p) (sym (end-open p u o)) (by-close (closeOf (p .boxes) u) refl)
     go (held {r = r} h) = subst (Kept p) (sym (end-again u h)) (by-again r (isClosed r))
 
 -- a record that no file leads to misses something

@@ -24,8 +24,8 @@ use Rattle.jxl_totals.proofs.Counting.{shown-by}
 use Rattle.jxl_totals.proofs.Lawful.{lawful}
 use Rattle.jxl_totals.proofs.Marks.{Own, marks}
 use Rattle.jxl_totals.proofs.Taking.{takes}
-use Rattle.jxl_files.specs.Theorems.{listing}
-use Rattle.jxl_files.proofs.Counts.{nothing-more}
+use Rattle.jxl_files.specs.Theorems.{All, listing}
+use Rattle.jxl_files.proofs.Counts.{total-of-packets, nothing-more}
 use Rattle.jxl_files.proofs.Listed.{Refusing, byRule, byLimit, refusing-by}
 use Rattle.jxl_files.proofs.Theorems.{whole-feed, every-cut, cut-file, most-events, at-most-more}
 use Rattle.jxl_totals.specs.declared.ContainerParser.{ContainerParser}
@@ -35,8 +35,8 @@ use Rattle.jxl_endings.specs.End as End
 use Rattle.jxl_endings.specs.Ended.{placedAt, owedBy, stopBy, nextBy, finishedBy, unreadOf, finished, events, EndedFile, endedAs, endedListing, ended, outcome}
 use Rattle.jxl_endings.specs.Ended as Stop
 use Rattle.jxl_endings.specs.Laws.{Owed, none, one, Kept}
-use Rattle.jxl_endings.specs.Theorems.{EveryEnd, EveryEndByName, Agrees, EveryCutEnded, DoneReadsAll, MostEventsEnded, AtMostMoreEnded}
-use Rattle.jxl_endings.proofs.Laws.{Stands, open-still, held, stands, end-open, end-repeats, end-keeps, step-again}
+use Rattle.jxl_endings.specs.Theorems.{EveryEnd, EveryEndByName, Agrees, EveryCutEnded, EndCounts, DoneReadsAll, MostEventsEnded, AtMostMoreEnded}
+use Rattle.jxl_endings.proofs.Laws.{Stands, open-still, held, stands, end-open, end-repeats, end-keeps, step-again, refused-end-stays, repeats-holds}
 
 -- the rules' own refusals do not close
 own-open : (r : BoxRefusal) → Own r → isClosed r ≡ false
@@ -152,7 +152,7 @@ done-reads-all p xs o e = go (feeding p xs .stop) (feeding-settles p xs o)
 -- at most one event is owed
 owed-few : {t : ℕ} {es : List FileEvent} (n : ℕ) → Owed t es → length (placedAt n es) ≤ 1
 owed-few n none = omega arith
-owed-few n (one e) = omega arith
+owed-few n (one o e) = omega arith
 
 owed-most : (p : ContainerParser) (n : ℕ) (e : Ended) → Kept p e → length (owedBy n e) ≤ 1
 owed-most p n (End.done es q) k = owed-few n (k .0)
@@ -183,3 +183,39 @@ at-most-more-ended p x xs o =
       length-append (eventsIn (finished p (x ∷ xs) .shown)) (finished p (x ∷ xs) .owed),
       length-append (eventsIn (finished p one .shown)) (finished p one .owed),
     )
+
+-- what an end keeps, counted
+owed-counted : {t : ℕ} {es : List FileEvent} (n : ℕ) → Owed t es → t ≡ n → All (λ (e : FileEvent). e .total ≡ n) (placedAt n es)
+owed-counted n none c = tt
+owed-counted n (one o e) c = (e ∙ c, tt)
+
+end-counted : (p : ContainerParser) (n : ℕ) (e : Ended) → Kept p e → p .total ≡ n → (nextBy e .total ≡ n) × All (λ (x : FileEvent). x .total ≡ n) (owedBy n e)
+end-counted p n (End.done es q) k c = (k .1 .1 ∙ c, owed-counted n (k .0) c)
+end-counted p n (End.refuses w q) k c = (k .1 ∙ c, tt)
+
+-- a refusal that an end gives, by the record that it leaves: with the total, and CutShort with it for its place too
+refused-counted : (p : ContainerParser) (u : List ℕ) (w : FileRefusal) → stopBy (endOf p u) ≡ Stop.refused w → (w .total ≡ p .total) × (w .rule ≡ Rule.CutShort → w .place ≡ p .total)
+refused-counted p u w e = go (endOf p u) refl e
+  where
+    go : (x : Ended) → endOf p u ≡ x → stopBy x ≡ Stop.refused w → (w .total ≡ p .total) × (w .rule ≡ Rule.CutShort → w .place ≡ p .total)
+    go (End.done es q) k e = never cc
+    go (End.refuses v q) k e =
+        let same : v ≡ w = cc in
+        let stays = refused-end-stays p q u v k [] .0 in
+        let told : v ≡ refusalOf (v .rule) q = repeats-holds q v stays .1 in
+        let total : q .total ≡ p .total = (rw k at (end-keeps p u)) .1 in
+        subst (λ (x : FileRefusal). (x .total ≡ p .total) × (x .rule ≡ Rule.CutShort → x .place ≡ p .total)) same
+        (ap (λ (x : FileRefusal). x .total) told ∙ total, λ rule. ap (λ (x : FileRefusal). x .place) (told ∙ ap (λ (r : BoxRefusal). refusalOf r q) rule) ∙ total)
+
+pub end-counts : EndCounts
+end-counts p xs o =
+    let r = feeding p xs in
+    let u = unreadOf p xs r in
+    let total : r .next .total ≡ r .consumed = total-of-packets p xs in
+    let counted = end-counted (r .next) (r .consumed) (endOf (r .next) u) (end-keeps (r .next) u) total in
+    record {
+      next-total = counted .0;
+      owed-total = counted .1;
+      stop-total = λ w e. refused-counted (r .next) u w e .0 ∙ total;
+      cut-place = λ w e rule. refused-counted (r .next) u w e .1 rule ∙ total;
+    }

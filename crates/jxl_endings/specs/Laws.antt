@@ -6,6 +6,8 @@ use mathlib.Core.List.{List, [], _∷_}
 use Prim.Native.Nat.{ℕ}
 use Rattle.jxl_refusals.specs.declared.BoxRefusal.the-variants as Rule
 use Rattle.jxl_impossible.specs.Impossible.{impossible}
+use Rattle.jxl_events.specs.declared.ParseEvent.{ParseEvent}
+use Rattle.jxl_events.specs.declared.ParseEvent.the-variants as E
 use Rattle.jxl_events.specs.declared.FileEvent.{FileEvent}
 use Rattle.jxl_totals.specs.Step.{kindOf, isRefused, stepOf}
 use Rattle.jxl_totals.specs.Step as Step
@@ -39,13 +41,19 @@ CutShortNames =
     (p q : ContainerParser) (u : List ℕ) (r : FileRefusal) → isRefused p ≡ false → endOf p u ≡ refuses r q
     → (r .rule ≡ Rule.CutShort) × (r .total ≡ p .total) × (r .place ≡ p .total)
 
--- at most one event, with the record's total; kind, total and header stay
+-- at most one event, of those that can be owed, with the record's total; kind, total and header stay
 abbrev pub Keeps : ContainerParser → ContainerParser → Type 0
 Keeps p q = (kindOf q ≡ kindOf p) × (q .total ≡ p .total) × (q .header ≡ p .header)
 
+-- AUX_END, an empty CODESTREAM, which shows nothing, or NO_MORE_AUX
+pub data Owable : ParseEvent → Type 0 where
+  sideEnds : {t : ℕ} → Owable (E.AuxBoxEnd t)
+  emptyCode : Owable (E.Codestream 0 0)
+  noMore : Owable E.NoMoreAuxBox
+
 pub data Owed (total : ℕ) : List FileEvent → Type 0 where
   none : Owed total []
-  one : {e : FileEvent} → e .total ≡ total → Owed total (e ∷ [])
+  one : {e : FileEvent} → Owable (e .event) → e .total ≡ total → Owed total (e ∷ [])
 
 abbrev pub Kept : ContainerParser → Ended → Type 0
 Kept p (done es q) = Owed (p .total) es × Keeps p q

@@ -5,10 +5,14 @@ use mathlib.Core.List.{List, [], _∷_}
 use Prim.Native.Nat.{ℕ, _+_, _/_, _≤_}
 use lib.ListN.{length}
 use Rattle.jxl_refusals.specs.Refusals.{Naming, why}
+use Rattle.jxl_refusals.specs.declared.BoxRefusal.the-variants.{CutShort}
+use Rattle.jxl_events.specs.declared.FileEvent.{FileEvent}
+use Rattle.jxl_files.specs.Theorems.{All}
 use Rattle.jxl_totals.specs.Step.{fresh, isRefused}
 use Rattle.jxl_totals.specs.Feeding.{eventsIn, joined, bytesOf}
-use Rattle.jxl_endings.specs.Ended.{Finished, done, finished, events, endedAs, ended, outcome}
+use Rattle.jxl_endings.specs.Ended.{Finished, done, refused, finished, events, endedAs, ended, outcome}
 use Rattle.jxl_totals.specs.declared.ContainerParser.{ContainerParser}
+use Rattle.jxl_totals.specs.declared.FileRefusal.{FileRefusal}
 
 -- every end: any packets, then the end call, from a new parser come to what the grammar says of the whole file, ended: its events joined,
 -- the owed one, the bytes consumed, and DONE, CutShort or the first refusal, by number and values
@@ -30,6 +34,16 @@ pub record Agrees (f t : Finished) : Type 0 where
 
 abbrev pub EveryCutEnded : Type 0
 EveryCutEnded = (p : ContainerParser) (xs : List (List ℕ)) → isRefused p ≡ false → Agrees (finished p xs) (finished p (bytesOf xs ∷ []))
+
+-- the end counts: the record then, the owed event and the refusal carry the bytes consumed, and CutShort names that place
+pub record Counted (f : Finished) : Type 0 where
+  pub next-total : f .next .total ≡ f .consumed
+  pub owed-total : All (λ (e : FileEvent). e .total ≡ f .consumed) (f .owed)
+  pub stop-total : (r : FileRefusal) → f .stop ≡ refused r → r .total ≡ f .consumed
+  pub cut-place : (r : FileRefusal) → f .stop ≡ refused r → r .rule ≡ CutShort → r .place ≡ f .consumed
+
+abbrev pub EndCounts : Type 0
+EndCounts = (p : ContainerParser) (xs : List (List ℕ)) → isRefused p ≡ false → Counted (finished p xs)
 
 -- done reads all: on DONE every byte of the file is consumed
 abbrev pub DoneReadsAll : Type 0

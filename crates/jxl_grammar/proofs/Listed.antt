@@ -37,7 +37,7 @@ use Rattle.jxl_record.specs.declared.DetectState.the-variants as S
 use Rattle.jxl_record.specs.declared.BoxParser.{BoxParser}
 use Rattle.jxl_refusals.specs.declared.BoxRefusal.{BoxRefusal}
 use Rattle.jxl_events.specs.declared.ParseEvent.the-variants as E
-use Rattle.jxl_grammar.specs.Grammar.{Listing, wanted, breaks, then, unlessOpen, betweenBoxes, Codestreams, none, single, upTo, whole, coded, code, closed, aux, row, indexed, inner, jxlcBox, jxlpBox, boxed, boxes, bare, signed}
+use Rattle.jxl_grammar.specs.Grammar.{Listing, wanted, breaks, then, unlessOpen, betweenBoxes, Codestreams, none, single, upTo, whole, coded, noCode, code, closed, noAux, aux, row, indexed, inner, jxlcBox, jxlpBox, boxed, boxes, bare, signed}
 use Rattle.jxl_grammar.specs.End.{Close, missing, owes, nothing, closeAt, auxOwes, codeOwes, unknown, rowOpen, closeOf}
 use Rattle.jxl_grammar.specs.Laws.{Repeats}
 use Rattle.jxl_grammar.specs.Feeding.{Seen, Takes, more, waits}
@@ -104,8 +104,8 @@ if-missing : (t : Bool) → if t missing missing ≡ missing
 if-missing true = refl
 if-missing false = refl
 
--- what is owed behind a bytes
-aux-at : (a t : ℕ) (l : BytesLeft) → closeAt a (auxOwes t l) ≡ auxOwes t l
+-- what the record owes, said behind a bytes, is what the grammar says there
+aux-at : (a t : ℕ) (l : BytesLeft) → closeAt a (auxOwes t l) ≡ noAux t l
 aux-at a t ToEnd = refl
 aux-at a t (Bytes n) = go (eqb n 0)
   where
@@ -113,7 +113,7 @@ aux-at a t (Bytes n) = go (eqb n 0)
     go true = refl
     go false = refl
 
-code-at : (a : ℕ) (l : BytesLeft) (pending : Bool) → closeAt a (codeOwes l pending 0) ≡ codeOwes l pending a
+code-at : (a : ℕ) (l : BytesLeft) (pending : Bool) → closeAt a (codeOwes l pending 0) ≡ noCode pending l a
 code-at a ToEnd true = refl
 code-at a ToEnd false = refl
 code-at a (Bytes n) pending = go (eqb n 0)
@@ -128,12 +128,12 @@ closes-by a false w = refl
 
 -- where nothing is there
 close-code : (a : ℕ) (j : JxlpIndexState) (k : BitstreamKind) (l : BytesLeft) (pending : Bool) → unknown k ≡ false
-    → closeAt a (closeOf (T.inCode k l pending j) []) ≡ unlessOpen (sofar j) (codeOwes l pending a)
+    → closeAt a (closeOf (T.inCode k l pending j) []) ≡ unlessOpen (sofar j) (noCode pending l a)
 close-code a j k l pending u =
-    rw u (closes-by a (rowOpen j) (codeOwes l pending 0) ∙ ap (if (rowOpen j) missing) (code-at a l pending) ∙ sym (unless-open j (codeOwes l pending a)))
+    rw u (closes-by a (rowOpen j) (codeOwes l pending 0) ∙ ap (if (rowOpen j) missing) (code-at a l pending) ∙ sym (unless-open j (noCode pending l a)))
 
-close-aux : (a : ℕ) (j : JxlpIndexState) (t : ℕ) (l : BytesLeft) → closeAt a (closeOf (at (S.InAuxBox t l) j) []) ≡ unlessOpen (sofar j) (auxOwes t l)
-close-aux a j t l = closes-by a (rowOpen j) (auxOwes t l) ∙ ap (if (rowOpen j) missing) (aux-at a t l) ∙ sym (unless-open j (auxOwes t l))
+close-aux : (a : ℕ) (j : JxlpIndexState) (t : ℕ) (l : BytesLeft) → closeAt a (closeOf (at (S.InAuxBox t l) j) []) ≡ unlessOpen (sofar j) (noAux t l)
+close-aux a j t l = closes-by a (rowOpen j) (auxOwes t l) ∙ ap (if (rowOpen j) missing) (aux-at a t l) ∙ sym (unless-open j (noAux t l))
 
 close-header : (a : ℕ) (j : JxlpIndexState) (s : List ℕ) → closeAt a (closeOf (at S.WaitingBoxHeader j) s) ≡ betweenBoxes (sofar j) s
 close-header a j [] = closes-by a (rowOpen j) nothing ∙ sym (unless-open j nothing)

@@ -1,10 +1,9 @@
 -- What a whole file lists: document 01, "Boxes", as a grammar of bytes; and what its end comes to: document 02, P4. It knows nothing of
 -- steps, packets or a parser's state; with a step it shares the signature (`signatureOf` of jxl_signatures), the header and the box types
--- (`headerOf`, `Types` of jxl_headers), the reach of a payload (jxl_reach), the names of the rules that can break (jxl_refusals) and what a
--- payload with no byte there owes (`auxOwes`, `codeOwes`).
+-- (`headerOf`, `Types` of jxl_headers), the reach of a payload (jxl_reach) and the names of the rules that can break (jxl_refusals).
 -- Each definition is one thing in a file that stands at `at`, with the bytes `s` from there to the end; `c` are the codestream boxes so far,
 -- with this one, and `next` lists the boxes that follow.
--- A choice is an `elim`, which computes one branch alone; an `if` would compute both, and with them the boxes to the end twice.
+-- A choice of listings is an `elim`, which computes one branch alone; an `if` would compute both, and with them the boxes to the end twice.
 use mathlib.Core.Bool.{Bool, true, false}
 use mathlib.Core.List.{List, [], _∷_}
 use Prim.Native.Nat.{ℕ, zero, suc, _+_, _%_}
@@ -12,7 +11,7 @@ use lib.Dec.{ltb, leb, eqb}
 use lib.ListN.{length, drop}
 use Rattle.jxl_cuts.specs.Feeding.{Stop as Stops}
 pub use Rattle.jxl_cuts.specs.Feeding.{want, refused}
-use Rattle.jxl_headers.specs.Bytes.{be32}
+use Rattle.jxl_headers.specs.Bytes.{if, be32}
 use Rattle.jxl_signatures.specs.Signature.{signatureOf}
 use Rattle.jxl_reach.specs.Reach.{under, less, toEnd}
 use Rattle.jxl_headers.specs.Types.{jxlc, jxlp, brob, reserved}
@@ -27,7 +26,7 @@ use Rattle.jxl_refusals.specs.declared.BoxRefusal.{BoxRefusal}
 use Rattle.jxl_refusals.specs.declared.BoxRefusal.the-variants.{SecondJxlc, JxlcAfterJxlp, JxlpTooSmall, JxlpAfterJxlc, JxlpAfterLast, WrongIndex, BrobTooSmall, ValidationFailed}
 use Rattle.jxl_events.specs.declared.ParseEvent.{ParseEvent}
 use Rattle.jxl_events.specs.declared.ParseEvent.the-variants as E
-use Rattle.jxl_grammar.specs.End.{Close, missing, nothing, owes, auxOwes, codeOwes}
+use Rattle.jxl_grammar.specs.End.{Close, missing, nothing, owes}
 
 -- how a listing stops: more bytes are wanted, or a refusal by the rule that broke
 abbrev pub Stop : Type 0
@@ -81,9 +80,16 @@ coded c (Bytes n) at s next =
       | false ↦ then (E.Codestream at (length s)) (wanted missing (at + length s))
     ]
 
+-- where a codestream has no byte: "NO_MORE_AUX alone for a codestream to the end", unless it is told; "an empty CODESTREAM of a bounded box"
+-- that has a payload of 0; else bytes are missing
+abbrev pub noCode : Bool → BytesLeft → ℕ → Close
+noCode true ToEnd at = owes E.NoMoreAuxBox
+noCode false ToEnd at = nothing
+noCode tell (Bytes n) at = if (eqb n 0) (owes (E.Codestream at 0)) missing
+
 -- a codestream payload; codestream to the end: NO_MORE_AUX first, and `tell` is true just for that
 abbrev pub code : Codestreams → Bool → BytesLeft → ℕ → List ℕ → Boxes → Listing
-code c tell l at [] next = wanted (unlessOpen c (codeOwes l tell at)) at
+code c tell l at [] next = wanted (unlessOpen c (noCode tell l at)) at
 code c true l at (x ∷ s) next = then E.NoMoreAuxBox (coded c l at (x ∷ s) next)
 code c false l at (x ∷ s) next = coded c l at (x ∷ s) next
 
@@ -92,9 +98,14 @@ abbrev pub closed : Codestreams → ℕ → ℕ → List ℕ → Boxes → Listi
 closed c t at [] next = wanted (unlessOpen c (owes (E.AuxBoxEnd t))) at
 closed c t at (x ∷ s) next = then (E.AuxBoxEnd t) (next c at (x ∷ s))
 
+-- where a side box has no byte: "AUX_END, also of a box to the end"; else bytes are missing
+abbrev pub noAux : ℕ → BytesLeft → Close
+noAux t ToEnd = owes (E.AuxBoxEnd t)
+noAux t (Bytes n) = if (eqb n 0) (owes (E.AuxBoxEnd t)) missing
+
 -- a side box's payload; AUX_DATA is never empty
 abbrev pub aux : Codestreams → ℕ → BytesLeft → ℕ → List ℕ → Boxes → Listing
-aux c t l at [] next = wanted (unlessOpen c (auxOwes t l)) at
+aux c t l at [] next = wanted (unlessOpen c (noAux t l)) at
 aux c t ToEnd at (x ∷ s) next =
     then (E.AuxBoxData t at (length (x ∷ s))) (wanted (unlessOpen c (owes (E.AuxBoxEnd t))) (at + length (x ∷ s)))
 aux c t (Bytes n) at (x ∷ s) next =

@@ -1,42 +1,31 @@
 -- The text of what is still to come, taken line by line.
 use mathlib.Core.Path.{_≡_, refl, sym, ap, _∙_, subst}
-use mathlib.Core.Bool.{Bool, true, false}
 use mathlib.Core.List.{List, [], _∷_, _++_, append-assoc, append-nil}
 use Prim.Native.Nat.{ℕ, suc, _+_, _-_, _<_, _≤_, min}
 use native.Mathlib.Nat.{add-zero}
 use native.Mathlib.Omega.{arith}
-use lib.Dec.{eqb}
 use lib.ListN.{length, take, drop, length-drop}
 use lib.Seq.{take-all, drop-drop}
 use borrow.Author.Tests.{le-leb, lt-leb}
 use Rattle.jxl_cuts.specs.Feeding as Any
-use Rattle.jxl_headers.specs.Bytes.{if, or}
 use Rattle.jxl_refusals.specs.Refusals.{why}
-use Rattle.jxl_refusals.specs.declared.BoxRefusal.{BoxRefusal}
 use Rattle.jxl_refusals.specs.declared.BoxRefusal.the-variants as Rule
-use Rattle.jxl_reach.specs.declared.BytesLeft.the-variants.{ToEnd, Bytes}
-use Rattle.jxl_record.specs.Record.{kindOf}
-use Rattle.jxl_record.specs.declared.DetectState.{DetectState}
-use Rattle.jxl_record.specs.declared.DetectState.the-variants as D
-use Rattle.jxl_record.specs.declared.BoxParser.{BoxParser}
-use Rattle.jxl_grammar.specs.End.{Close, missing, owes, nothing, unknown, rowOpen, stateOwes, closeOf}
 use Rattle.jxl_base.proofs.Never.{never}
 use Rattle.jxl_events.specs.Event.{shifted}
-use Rattle.jxl_events.specs.Total.{carrying, further, inFile, EndsAt, withoutTotals}
+use Rattle.jxl_events.specs.Total.{further, inFile, EndsAt, withoutTotals}
 use Rattle.jxl_events.specs.declared.ParseEvent.{ParseEvent}
 use Rattle.jxl_events.specs.declared.ParseEvent.the-variants as E
 use Rattle.jxl_events.specs.declared.FileEvent.{FileEvent}
 use Rattle.jxl_events.proofs.Shifted.{in-file-there, in-file-anywhere}
 use Rattle.jxl_totals.specs.Step.{Told, shows, wants, fresh, room, refusalOf, stepOf}
 use Rattle.jxl_totals.specs.Step as Step
-use Rattle.jxl_totals.specs.Naming.{isClosed}
 use Rattle.jxl_totals.specs.Parser.{parser}
 use Rattle.jxl_totals.specs.Feeding.{Stop, Seen, events, joined, followed, placed, more, waits, ends}
 use Rattle.jxl_totals.specs.Feeding as Feeding
-use Rattle.jxl_endings.specs.End.{Ended, done, refuses, closing, endOf}
+use Rattle.jxl_endings.specs.End.{Ended, done, refuses, endOf}
 use Rattle.jxl_endings.specs.Ended.{placedAt, owedBy, finishedBy, endedListing, outcome}
-use Rattle.jxl_endings.specs.Laws.{Owed, one}
-use Rattle.jxl_endings.proofs.Laws.{end-open, Holds, end-again, step-again, Stands, open-still, held, stands, done-holds, end-keeps}
+use Rattle.jxl_endings.specs.Laws.{Owable, sideEnds, emptyCode, noMore, Owed, none, one}
+use Rattle.jxl_endings.proofs.Laws.{Holds, end-again, step-again, done-holds, end-keeps}
 use Rattle.jxl_endings.proofs.Theorems.{settles, ends-as-listed}
 use Rattle.jxl_totals.specs.declared.ContainerParser.{ContainerParser}
 use Rattle.jxl_totals.specs.declared.FileRefusal.{FileRefusal}
@@ -113,64 +102,22 @@ module _ (p : ContainerParser) (s : List ℕ) (k : ℕ) where
       ∙ ap (λ (l : List ℕ). followed (placed (p .total) (drop k s) e c ∷ []) (Any.take parser q (p .total + c) l)) (drop-drop c k s)
       ∙ ap (λ (n : ℕ). followed (placed (p .total) (drop k s) e c ∷ []) (Any.take parser q n (drop (k + c) s))) (sym (shown-counts p (drop k s) st .next-total))
 
--- an event that an end owes shows nothing: it ends where all is consumed
-owed-ends : (d : DetectState) {e : ParseEvent} → stateOwes d ≡ owes e → EndsAt 0 e
-owed-ends D.WaitingSignature h = never cc
-owed-ends D.WaitingBoxHeader h = never cc
-owed-ends (D.WaitingJxlpIndex l) h = never cc
-owed-ends (D.WaitingInnerType l) h = never cc
-owed-ends (D.InAuxBox t ToEnd) {e} h = let same : E.AuxBoxEnd t ≡ e = cc in subst (EndsAt 0) same tt
-owed-ends (D.InAuxBox t (Bytes n)) {e} h = go (eqb n 0) h
-  where
-    go : (b : Bool) → if b (owes (E.AuxBoxEnd t)) missing ≡ owes e → EndsAt 0 e
-    go true h = let same : E.AuxBoxEnd t ≡ e = cc in subst (EndsAt 0) same tt
-    go false h = never cc
-owed-ends (D.InCodestream k ToEnd true) {e} h = let same : E.NoMoreAuxBox ≡ e = cc in subst (EndsAt 0) same tt
-owed-ends (D.InCodestream k ToEnd false) h = never cc
-owed-ends (D.InCodestream k (Bytes n) pending) {e} h = go (eqb n 0) h
-  where
-    go : (b : Bool) → if b (owes (E.Codestream 0 0)) missing ≡ owes e → EndsAt 0 e
-    go true h = let same : E.Codestream 0 0 ≡ e = cc in subst (EndsAt 0) same refl
-    go false h = never cc
-owed-ends (D.Refused k r) h = never cc
+-- an event that an end owes shows nothing, so its place in the file is where all is consumed
+owable-ends : {e : ParseEvent} → Owable e → EndsAt 0 e
+owable-ends sideEnds = tt
+owable-ends emptyCode = refl
+owable-ends noMore = tt
 
-close-ends : (p : BoxParser) (u : List ℕ) {e : ParseEvent} → closeOf p u ≡ owes e → EndsAt 0 e
-close-ends p [] {e} h = go (or (unknown (kindOf p)) (rowOpen (p .jxlp))) h
-  where
-    go : (b : Bool) → if b missing (stateOwes (p .state)) ≡ owes e → EndsAt 0 e
-    go true h = never cc
-    go false h = owed-ends (p .state) h
-close-ends p (x ∷ u) h = never cc
-
--- so its place in the file is there
-owed-in-file : (p : ContainerParser) (u : List ℕ) {es : List FileEvent} {q : ContainerParser} → endOf p u ≡ done es q → inFiles es ≡ placedAt (p .total) es
-owed-in-file p u {es} {q} e = go (stands p)
-  where
-    none-owed : [] ≡ es → inFiles es ≡ placedAt (p .total) es
-    none-owed h = subst (λ (l : List FileEvent). inFiles l ≡ placedAt (p .total) l) h refl
-
-    by-close : (w : Close) → closeOf (p .boxes) u ≡ w → closing p w ≡ done es q → inFiles es ≡ placedAt (p .total) es
-    by-close missing c h = never cc
-    by-close (owes x) c h =
-        let same : carrying x (p .total) ∷ [] ≡ es = cc in
-        let there : EndsAt (p .total) (shifted (p .total) x) =
-        subst (λ (m : ℕ). EndsAt m (shifted (p .total) x)) (add-zero (p .total)) (ends-further (p .total) 0 x (close-ends (p .boxes) u c)) in
-        let placed-there : inFile (carrying x (p .total)) ≡ further (p .total) (carrying x (p .total)) =
-        sym (in-file-anywhere (p .total) (carrying x (p .total))) ∙ in-file-there (further (p .total) (carrying x (p .total))) there in
-        subst (λ (l : List FileEvent). inFiles l ≡ placedAt (p .total) l) same (ap (λ (d : FileEvent). d ∷ []) placed-there)
-    by-close nothing c h = let none : [] ≡ es = cc in none-owed none
-
-    by-again : (r : BoxRefusal) (t : Bool) → if t (done [] p) (refuses (refusalOf r p) p) ≡ done es q → inFiles es ≡ placedAt (p .total) es
-    by-again r true k = let none : [] ≡ es = cc in none-owed none
-    by-again r false k = never cc
-
-    go : Stands p → inFiles es ≡ placedAt (p .total) es
-    go (open-still o) = by-close (closeOf (p .boxes) u) refl (sym (end-open p u o) ∙ e)
-    go (held {r = r} h) = by-again r (isClosed r) (sym (end-again u h) ∙ e)
+owed-in-file : {n : ℕ} {es : List FileEvent} → Owed n es → inFiles es ≡ placedAt n es
+owed-in-file none = refl
+owed-in-file {n} (one {e = e} o t) =
+    let there : EndsAt (e .total) (shifted n (e .event)) =
+    subst (λ (m : ℕ). EndsAt m (shifted n (e .event))) (add-zero n ∙ sym t) (ends-further n 0 (e .event) (owable-ends o)) in
+    ap (λ (d : FileEvent). d ∷ []) (sym (in-file-anywhere n e) ∙ in-file-there (further n e) there)
 
 -- at most one
 one-owed : {n : ℕ} {e : FileEvent} {es : List FileEvent} → Owed n (e ∷ es) → es ≡ []
-one-owed (one t) = refl
+one-owed (one o t) = refl
 
 -- what was seen of the file, and ended, line by line
 abbrev pub endingOf : Seen → List ℕ → Ended
@@ -221,8 +168,8 @@ module _ (p : ContainerParser) (f : List ℕ) (w : Stop) (r : ContainerParser) (
   ended-shown {e} {q} n = go (endOf r u) refl n
     where
       one-event : (d : FileEvent) (es : List FileEvent) (o : ContainerParser) → es ≡ [] → endOf r u ≡ done (d ∷ es) o → inFile d .event ≡ e → o ≡ q → Follows p f e q
-      one-event d es o none k event same =
-          let last : endOf r u ≡ done (d ∷ []) o = k ∙ ap (λ (l : List FileEvent). done (d ∷ l) o) none in
+      one-event d es o alone k event same =
+          let last : endOf r u ≡ done (d ∷ []) o = k ∙ ap (λ (l : List FileEvent). done (d ∷ l) o) alone in
           let closed = done-holds r u last in
           let keeps = rw last at (end-keeps r u) in
           let total : o .total ≡ r .total = keeps .1 .1 in
@@ -333,7 +280,7 @@ outcome-text r u t = go (endOf (r .next) u) refl
 
     go : (x : Ended) → endOf (r .next) u ≡ x → listingText (outcome (finishedBy r x)) ≡ texts es ++ endText x (r .consumed)
     go (done os q) k =
-        let there : placedAt (r .consumed) os ≡ inFiles os = ap (λ (n : ℕ). placedAt n os) (sym t) ∙ sym (owed-in-file (r .next) u k) in
+        let there : placedAt (r .consumed) os ≡ inFiles os = ap (λ (n : ℕ). placedAt n os) (sym t) ∙ sym (owed-in-file ((rw k at (end-keeps (r .next) u)) .0)) in
         ap (λ (l : List ℕ). l ++ text (L.Stopped S.Done (r .consumed))) (texts-append es (withoutTotals (placedAt (r .consumed) os)))
         ∙ append-assoc (texts es) (linesOf (placedAt (r .consumed) os)) (text (L.Stopped S.Done (r .consumed)))
         ∙ ap (λ (l : List FileEvent). texts es ++ (linesOf l ++ text (L.Stopped S.Done (r .consumed)))) there

@@ -6,7 +6,9 @@ use lib.ListN.{length}
 use Rattle.jxl_base.proofs.OneAnswer.{one-named}
 use Rattle.jxl_totals.specs.declared.ContainerParser.{ContainerParser}
 use Rattle.jxl_joiner.specs.declared.MaybeEvent.{MaybeEvent}
-use Rattle.jxl_list_rules.specs.Theorems.{OneListing, OneShortWay, OneTurn}
+use Rattle.jxl_list_rules.specs.Theorems.{OneListing, OneNextAtEnd, OneShortWay, OneTurn}
+use Rattle.jxl_endings.specs.End.{endOf}
+use Rattle.jxl_list_rules.specs.Listed.{nextEnd}
 use Rattle.jxl_list_rules.specs.Turned.{Told}
 use Rattle.jxl_list_rules.specs.Way.{wayOf}
 use Rattle.jxl_list_rules.specs.declared.AfterTurn.{AfterTurn}
@@ -14,6 +16,9 @@ use Rattle.jxl_list_rules.specs.declared.TurnEnd.{TurnEnd}
 
 pub one-listing : OneListing
 one-listing d w r q b c p e = let same = p ∙ sym e in (cc, cc)
+
+pub one-next-at-end : OneNextAtEnd
+one-next-at-end p u = one-named (nextEnd (endOf p u))
 
 pub one-short-way : OneShortWay
 one-short-way p h n = one-named (wayOf p h n)

@@ -11,12 +11,13 @@ use Rattle.jxl_totals.specs.Feeding.{Seen, events}
 use Rattle.jxl_totals.specs.Feeding as Feeding
 use Rattle.jxl_files.specs.Theorems.{All, ruleIn}
 use Rattle.jxl_totals.specs.declared.ContainerParser.{ContainerParser}
+use Rattle.jxl_endings.specs.End.{endOf}
 use Rattle.jxl_joiner.specs.Joiner.{handed, run}
 use Rattle.jxl_joiner.specs.declared.MaybeEvent.{MaybeEvent}
 use Rattle.jxl_joiner.specs.declared.MaybeEvent.the-variants.{None, Some}
 use Rattle.jxl_lines.specs.Putting.{leaves}
 use Rattle.jxl_lines.specs.declared.StopWord.{StopWord}
-use Rattle.jxl_list_rules.specs.Listed.{stopOf, linesOf, fileText, fileTextIn01, listOf}
+use Rattle.jxl_list_rules.specs.Listed.{stopOf, linesOf, fileText, fileTextIn01, nextEnd, listOf}
 use Rattle.jxl_list_rules.specs.Turned.{Turned, turnOf, Told}
 use Rattle.jxl_list_rules.specs.Row.{goesOn, rowOf}
 use Rattle.jxl_list_rules.specs.Way.{wayOf, Leads}
@@ -103,6 +104,9 @@ WayLeads = (p : ContainerParser) (h : MaybeEvent) (n : ℕ) → Leads (wayOf p h
 -- one answer: each promise determines what its function gives, and the buffer that it leaves
 abbrev pub OneListing : Type 0
 OneListing = (d w : List ℕ) → OneAnswerAndBuffer (λ r b. leaves r b ≡ listOf d w)
+
+abbrev pub OneNextAtEnd : Type 0
+OneNextAtEnd = (p : ContainerParser) (u : List ℕ) → OneAnswer (λ r. r ≡ nextEnd (endOf p u))
 
 abbrev pub OneShortWay : Type 0
 OneShortWay = (p : ContainerParser) (h : MaybeEvent) (n : ℕ) → OneAnswer (λ r. r ≡ wayOf p h n)

@@ -24,8 +24,8 @@ use Rattle.jxl_refusals.specs.declared.BoxRefusal.the-variants.{JxlpTooSmall, W
 use Rattle.jxl_events.specs.Event.{payloadOf}
 use Rattle.jxl_events.specs.declared.ParseEvent.{ParseEvent}
 use Rattle.jxl_events.specs.declared.ParseEvent.the-variants as E
-use Rattle.jxl_grammar.specs.End.{Close, missing, owes, nothing, auxOwes, codeOwes}
-use Rattle.jxl_grammar.specs.Grammar.{Listing, want, wanted, breaks, then, unlessOpen, Codestreams, none, single, upTo, whole, Boxes, coded, code, closed, aux, row, indexed, inner, jxlcBox, jxlpBox, boxed, betweenBoxes, headed, boxes, noBoxes, bare, signed, file}
+use Rattle.jxl_grammar.specs.End.{Close, missing, owes, nothing}
+use Rattle.jxl_grammar.specs.Grammar.{Listing, want, wanted, breaks, then, unlessOpen, Codestreams, none, single, upTo, whole, Boxes, coded, noCode, code, closed, noAux, aux, row, indexed, inner, jxlcBox, jxlpBox, boxed, betweenBoxes, headed, boxes, noBoxes, bare, signed, file}
 use Rattle.jxl_base.proofs.Never.{never}
 use Rattle.jxl_sides.specs.Sides.{Side, side, payload, behind, sideBox, sidesBehind, sidesFrom, sidesBy, sidesOf}
 use Rattle.jxl_sides.specs.Telling.{Sides, astray, told, oneMore, Move, adds, shuts, moveOf, Where, outside, inside, met, over}
@@ -65,7 +65,7 @@ payload-none : (l : BytesLeft) → payload l [] ≡ []
 payload-none ToEnd = refl
 payload-none (Bytes n) = take-nil n
 
-owed-code : (l : BytesLeft) (tell : Bool) (a : ℕ) → Whole (codeOwes l tell a) → owing (codeOwes l tell a) outside ≡ told []
+owed-code : (l : BytesLeft) (tell : Bool) (a : ℕ) → Whole (noCode tell l a) → owing (noCode tell l a) outside ≡ told []
 owed-code ToEnd true a h = refl
 owed-code ToEnd false a h = refl
 owed-code (Bytes n) tell a h = go (eqb n 0) h
@@ -80,7 +80,7 @@ shut t b bs next = rw (met, eq-eqb t t refl)
 added : (t : ℕ) (b : Bool) (before bs : List ℕ) (next : Where → Sides) → met (adds t) bs (inside t b before) next ≡ next (inside t b (before ++ bs))
 added t b before bs next = rw (met, eq-eqb t t refl)
 
-owed-aux : (t : ℕ) (b : Bool) (l : BytesLeft) → Whole (auxOwes t l) → owing (auxOwes t l) (inside t b []) ≡ told (side t b [] ∷ [])
+owed-aux : (t : ℕ) (b : Bool) (l : BytesLeft) → Whole (noAux t l) → owing (noAux t l) (inside t b []) ≡ told (side t b [] ∷ [])
 owed-aux t b ToEnd h = shut t b [] over
 owed-aux t b (Bytes n) h = go (eqb n 0) h
   where
@@ -145,7 +145,7 @@ module _ (f : List ℕ) where
     tells-code : (c : Codestreams) (tell : Bool) (l : BytesLeft) (a : ℕ) (s : List ℕ) → s ≡ drop a f → length s ≤ m → Ends (code c tell l a s next)
         → tells (code c tell l a s next) outside ≡ told (after (behind l s))
     tells-code c tell l a [] d h e =
-        let shut-row = no-row c (codeOwes l tell a) (e .1) in
+        let shut-row = no-row c (noCode tell l a) (e .1) in
         ap (λ (w : Close). owing w outside) shut-row ∙ owed-code l tell a (subst Whole shut-row (e .1)) ∙ ap told (sym (ap after (behind-none l) ∙ none-after))
     tells-code c true l a (x ∷ s) d h e = tells-coded c l a (x ∷ s) d h e
     tells-code c false l a (x ∷ s) d h e = tells-coded c l a (x ∷ s) d h e
@@ -160,7 +160,7 @@ module _ (f : List ℕ) where
     tells-aux : (c : Codestreams) (t : ℕ) (b : Bool) (l : BytesLeft) (a : ℕ) (s : List ℕ) → s ≡ drop a f → length s ≤ m → Ends (aux c t l a s next)
         → tells (aux c t l a s next) (inside t b []) ≡ told (side t b (payload l s) ∷ after (behind l s))
     tells-aux c t b l a [] d h e =
-        let shut-row = no-row c (auxOwes t l) (e .1) in
+        let shut-row = no-row c (noAux t l) (e .1) in
         ap (λ (w : Close). owing w (inside t b [])) shut-row ∙ owed-aux t b l (subst Whole shut-row (e .1))
         ∙ rw (payload-none l, behind-none l, none-after)
     tells-aux c t b ToEnd a (x ∷ s) d h e =
