@@ -61,11 +61,7 @@ fn feed(parser: ContainerParser, input: &[u8]) -> Fed
                     consumed: at + consumed,
                 };
             }
-            StepResult::Refused {
-                refusal: _,
-                next,
-                consumed,
-            } => {
+            StepResult::Refused { next, consumed, .. } => {
                 return Fed {
                     parser: next,
                     consumed: at + consumed,
@@ -90,7 +86,7 @@ fn end(parser: ContainerParser, unread: &[u8]) {
             }
             print_stop(StopWord::Done, next.total);
         }
-        EndResult::Refused { next: _, refusal } => {
+        EndResult::Refused { refusal, .. } => {
             let rule = refusal.rule;
             print_stop(StopWord::refused(rule), refusal.total);
         }
