@@ -1,4 +1,4 @@
--- `list` is safe: what the first feed consumes lies inside its packet, and so inside the file.
+-- `list` is safe: what a feed consumes lies inside its input, and so inside the file.
 -- Assumes nothing.
 use mathlib.Core.Path.{sym}
 use native.Mathlib.Omega.{arith}
@@ -23,21 +23,33 @@ slice-aggregate-feed c = sym (length-take-le _ _ (omega arith))
 feed-requires : tie.Need-feed-requires
 feed-requires c κs = search needs
 
-sub-feed : tie.Need-sub-feed
-sub-feed c =
+sub-rest : tie.Need-sub-rest
+sub-rest c =
     let a = c .before .before .before .before .before .before .before .args in
     omega (arith, c .feed .ensures, length-take-le (a .cut) (now (a .file)) (omega arith))
 
-part-feed-start : tie.Need-part-feed-start
-part-feed-start c =
+part-rest-start : tie.Need-part-rest-start
+part-rest-start c =
     let a = c .before .before .before .before .before .before .before .args in
     omega (arith, c .feed .ensures, length-take-le (a .cut) (now (a .file)) (omega arith))
 
-part-feed-end : tie.Need-part-feed-end
-part-feed-end c = search needs
+part-rest-end : tie.Need-part-rest-end
+part-rest-end c = search needs
 
 feed-requires-2 : tie.Need-feed-requires-2
 feed-requires-2 c κs = search needs
+
+sub-end : tie.Need-sub-end
+sub-end c = search needs
+
+part-end-start : tie.Need-part-end-start
+part-end-start c = search needs
+
+part-end-end : tie.Need-part-end-end
+part-end-end c = search needs
+
+end-requires : tie.Need-end-requires
+end-requires c κs = search needs
 
 returns-2 : tie.Need-returns-2
 returns-2 c = search needs
@@ -54,9 +66,13 @@ list-spec =
     new-requires
     slice-aggregate-feed
     feed-requires
-    sub-feed
-    part-feed-start
-    part-feed-end
+    sub-rest
+    part-rest-start
+    part-rest-end
     feed-requires-2
+    sub-end
+    part-end-start
+    part-end-end
+    end-requires
     returns-2
     returns-3)

@@ -1,4 +1,4 @@
--- `print` is safe: a line that was written lies inside the buffer.
+-- `print_line` is safe: a line that was written lies inside the buffer.
 -- Assumes nothing.
 use mathlib.Core.Path.{sym, ap, _∙_}
 use native.Mathlib.Omega.{arith}
@@ -7,11 +7,8 @@ use borrow.Author.Needs.{needs}
 use Rattle.jxl_lines.specs.Putting.{leaves}
 use Rattle.jxl_lines.specs.declared.Put.{Put}
 use Rattle.jxl_lines.proofs.Putting.{put-within}
-use Rattle.example_boxes.proofs.print.Statement.{statement}
-use Rattle.example_boxes.proofs.print.Tie as tie
-
-in-file-requires : tie.Need-in-file-requires
-in-file-requires c κs = search needs
+use Rattle.example_boxes.proofs.print_line.Statement.{statement}
+use Rattle.example_boxes.proofs.print_line.Tie as tie
 
 slice-aggregate-put-line : tie.Need-slice-aggregate-put-line
 slice-aggregate-put-line c = search needs
@@ -44,11 +41,10 @@ returns c = search needs
 returns-2 : tie.Need-returns-2
 returns-2 c = search needs
 
-pub print-spec : {M : Type 1} → statement M
-print-spec =
+pub print-line-spec : {M : Type 1} → statement M
+print-line-spec =
     tie.close
     (tie.spec
-    in-file-requires
     slice-aggregate-put-line
     put-line-requires
     enum-known-n
