@@ -1,3 +1,2 @@
-mod Closed
 pub mod Unique
 pub mod Ruled

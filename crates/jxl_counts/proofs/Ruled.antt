@@ -10,7 +10,7 @@ use Rattle.jxl_totals.specs.declared.FileRefusal.{FileRefusal}
 use Rattle.jxl_counts.specs.Told.{told}
 use Rattle.jxl_counts.specs.declared.StepResult.{StepResult}
 use Rattle.jxl_counts.specs.declared.StepResult.the-variants as A
-use Rattle.jxl_counts.proofs.Closed.{closed-alone}
+use Rattle.jxl_totals.proofs.Closed.{closed-alone}
 use Rattle.jxl_counts.proofs.Unique.{says-tells}
 
 abbrev pub ruled : StepResult → Told

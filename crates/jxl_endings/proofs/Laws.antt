@@ -27,6 +27,7 @@ use Rattle.jxl_base.proofs.Never.{never}
 use Rattle.jxl_totals.specs.Step.{wants, isRefused, refusalOf, stepOf}
 use Rattle.jxl_totals.specs.Step as Step
 use Rattle.jxl_totals.specs.Naming.{closed, isClosed, numbered}
+use Rattle.jxl_totals.proofs.Closed.{closed-alone}
 use Rattle.jxl_totals.proofs.Counting.{repeats}
 use Rattle.jxl_totals.proofs.Laws.{every-step, empty-feed}
 use Rattle.jxl_totals.specs.declared.ContainerParser.{ContainerParser}
@@ -92,23 +93,6 @@ stands p = go (isRefused p) refl
 stopped-holds : (r : BoxRefusal) (p : ContainerParser) → Holds (stopped r p) r
 stopped-holds r p = holds refl
 
--- the only answer that closes
-closed-is : (r : BoxRefusal) → isClosed r ≡ true → r ≡ Rule.Closed
-closed-is Rule.ShortSize e = never e
-closed-is Rule.ExtendedSize e = never e
-closed-is Rule.SecondJxlc e = never e
-closed-is Rule.JxlcAfterJxlp e = never e
-closed-is Rule.JxlpTooSmall e = never e
-closed-is Rule.JxlpAfterJxlc e = never e
-closed-is Rule.JxlpAfterLast e = never e
-closed-is (Rule.WrongIndex found expected) e = never e
-closed-is Rule.BrobTooSmall e = never e
-closed-is Rule.ImpossibleRecord e = never e
-closed-is Rule.ValidationFailed e = never e
-closed-is Rule.StreamLimit e = never e
-closed-is Rule.CutShort e = never e
-closed-is Rule.Closed e = refl
-
 -- what a closed record answers
 closed-answers : {q : ContainerParser} → Holds q Rule.Closed → (s : List ℕ)
     → (numbered (stepOf q s) ≡ Step.refuses (closed (q .total) (q .total)) q 0) × (endOf q s ≡ done [] q)
@@ -129,7 +113,7 @@ done-holds p u {es} {q} e = go (stands p)
     by-again : (r : BoxRefusal) → Holds p r → (t : Bool) → isClosed r ≡ t → if t (done [] p) (refuses (refusalOf r p) p) ≡ done es q → Holds q Rule.Closed
     by-again r h true c k =
         let same : p ≡ q = cc in
-        subst (λ (y : ContainerParser). Holds y Rule.Closed) same (subst (Holds p) (closed-is r c) h)
+        subst (λ (y : ContainerParser). Holds y Rule.Closed) same (subst (Holds p) (closed-alone r c) h)
     by-again r h false c k = never cc
 
     go : Stands p → Holds q Rule.Closed

@@ -4,7 +4,7 @@ use mathlib.Core.Path.{_≡_, sym, _∙_}
 use mathlib.Core.Bool.{true, false}
 use borrow.Author.Needs.{needs}
 use Rattle.jxl_totals.specs.Naming.{isClosed}
-use Rattle.jxl_counts.proofs.Closed.{closed-alone}
+use Rattle.jxl_totals.proofs.Closed.{closed-alone}
 use Rattle.jxl_counts.proofs.refused.Statement.{statement}
 use Rattle.jxl_counts.proofs.refused.Tie as tie
 
