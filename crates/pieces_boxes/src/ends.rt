@@ -55,7 +55,7 @@ fn print_feed(name: &[u8], out: &[u8], feed: Feed) {
 
 // The file fed in two packets, the first of `cut` bytes.
 fn in_two(parser: ContainerParser, file: &[u8], cut: usize) -> Feed {
-    let mut out = [0u8; 1024];
+    let mut out = [0u8; 256];
     let first = box_answers::packet(&mut out, file, cut, box_answers::start(parser));
     let second = box_answers::packet(&mut out, file, file.len(), first);
     print_feed(b"  in two: ", &out, second);
