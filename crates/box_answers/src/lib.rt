@@ -9,13 +9,14 @@ use jxl_container::StepResult;
 use jxl_slices::part;
 
 // The record, its total at the start, the bytes consumed since, counted here, the kind that an event told, the place behind the answer
-// so far, the place that the newest refusal named, and how the last step ended.
+// so far, the number of the newest refusal and the place that it named, and how the last step ended.
 pub struct Feed {
     pub parser: ContainerParser,
     pub from: u64,
     pub consumed: usize,
     pub told: BitstreamKind,
     pub to: usize,
+    pub rule: u32,
     pub place: u64,
     pub stopped: bool,
     pub refused: bool,
@@ -29,6 +30,7 @@ pub fn start(parser: ContainerParser) -> Feed {
         consumed: 0,
         told: parser.kind(),
         to: 0,
+        rule: 0,
         place: 0,
         stopped: false,
         refused: false,
@@ -109,7 +111,7 @@ fn is_counted(before: u64, consumed: usize, next: u64, told: u64) -> bool {
 }
 
 // Whether two refusals are by the same number, with the same total and place.
-fn is_same(first: FileRefusal, again: FileRefusal) -> bool {
+pub fn is_same(first: FileRefusal, again: FileRefusal) -> bool {
     let rule = first.rule;
     let repeated = again.rule;
     if repeated.number() != rule.number() {
@@ -122,7 +124,7 @@ fn is_same(first: FileRefusal, again: FileRefusal) -> bool {
 }
 
 // Whether the refused record, given `input`, consumes nothing and repeats the refusal.
-fn is_repeated(refused: ContainerParser, input: &[u8], first: FileRefusal) -> bool {
+pub fn is_repeated(refused: ContainerParser, input: &[u8], first: FileRefusal) -> bool {
     let StepResult::Refused {
         next: _,
         consumed,
@@ -183,6 +185,7 @@ fn stepped(
         consumed: std::num::wrapping_add_usize(feed.consumed, consumed),
         told,
         to,
+        rule: feed.rule,
         place: feed.place,
         stopped: false,
         refused: false,
@@ -195,16 +198,54 @@ fn stopped(mut feed: Feed) -> Feed {
     feed
 }
 
-// The same behind a refusal that names `place`, or behind Closed: no more is fed.
-fn refused(mut feed: Feed, place: u64) -> Feed {
+// The same behind a refusal by this number that names `place`, or behind Closed: no more is fed.
+fn refused(mut feed: Feed, rule: u32, place: u64) -> Feed {
+    feed.rule = rule;
     feed.place = place;
     feed.stopped = true;
     feed.refused = true;
     feed
 }
 
+// A feed behind a refusal of a step on `input`, and a mark where its total is wrong.
+fn behind_refusal(
+    out: &mut [u8],
+    input: &[u8],
+    feed: Feed,
+    next: ContainerParser,
+    consumed: usize,
+    refusal: FileRefusal,
+) -> Feed {
+    let before = feed.parser;
+    let kind = feed.told;
+    let rule = refusal.rule;
+    let behind = told(out, feed.to, next, input, refusal);
+    let counted = is_counted(before.total, consumed, next.total, refusal.total);
+    let marked = box_lines::rule(out, behind, counted);
+    refused(
+        stepped(feed, next, consumed, kind, marked),
+        rule.number(),
+        refusal.place,
+    )
+}
+
+// A feed behind Closed, and a mark where its total is wrong.
+fn behind_closed(out: &mut [u8], feed: Feed, next: ContainerParser, consumed: usize) -> Feed {
+    let before = feed.parser;
+    let kind = feed.told;
+    let rule = BoxRefusal::Closed;
+    let behind = box_lines::refusal(out, feed.to, rule);
+    let counted = is_counted(before.total, consumed, next.total, next.total);
+    let marked = box_lines::rule(out, behind, counted);
+    refused(
+        stepped(feed, next, consumed, kind, marked),
+        rule.number(),
+        next.total,
+    )
+}
+
 // One step on the bytes of the file up to `end` that are not consumed, and a mark where its total is wrong.
-fn turn(out: &mut [u8], file: &[u8], end: usize, feed: Feed) -> Feed {
+pub fn turn(out: &mut [u8], file: &[u8], end: usize, feed: Feed) -> Feed {
     let base = feed.consumed;
     let to = feed.to;
     let kind = feed.told;
@@ -231,18 +272,8 @@ fn turn(out: &mut [u8], file: &[u8], end: usize, feed: Feed) -> Feed {
             next,
             consumed,
             refusal,
-        } => {
-            let behind = told(out, to, next, input, refusal);
-            let counted = is_counted(total, consumed, next.total, refusal.total);
-            let marked = box_lines::rule(out, behind, counted);
-            refused(stepped(feed, next, consumed, kind, marked), refusal.place)
-        }
-        StepResult::Closed { next, consumed } => {
-            let behind = box_lines::refusal(out, to, BoxRefusal::Closed);
-            let counted = is_counted(total, consumed, next.total, next.total);
-            let marked = box_lines::rule(out, behind, counted);
-            refused(stepped(feed, next, consumed, kind, marked), next.total)
-        }
+        } => behind_refusal(out, input, feed, next, consumed, refusal),
+        StepResult::Closed { next, consumed } => behind_closed(out, feed, next, consumed),
     }
 }
 
@@ -284,20 +315,19 @@ pub fn packet(out: &mut [u8], file: &[u8], end: usize, before: Feed) -> Feed {
     feed
 }
 
-// The file fed in packets of the lengths `cuts`, nothing after a refusal. The answer stands at the front of `out`, and its
-// length comes back.
-pub fn whole(out: &mut [u8], file: &[u8], cuts: &[u8]) -> usize {
+// The file fed in packets of the lengths `cuts`, nothing after a refusal. The answer stands at the front of `out`.
+pub fn whole(out: &mut [u8], file: &[u8], cuts: &[u8]) -> Feed {
     let mut feed = fresh();
     let mut end = 0;
     let mut at = 0;
     while at < cuts.len() {
         if feed.refused {
-            return feed.to;
+            return feed;
         }
         let cut = replay_text::parse_decimal(cuts, at);
         end = std::num::wrapping_add_usize(end, cut.value as usize);
         feed = packet(out, file, end, feed);
         at = replay_text::find(cuts, at, b',') + 1;
     }
-    feed.to
+    feed
 }

@@ -76,6 +76,11 @@ pub fn event(out: &mut [u8], to: usize, shown: ParseEvent, base: usize) -> usize
     }
 }
 
+// Puts the token of an end that owes no event.
+pub fn nothing(out: &mut [u8], to: usize) -> usize {
+    start(out, to, b'-')
+}
+
 // Puts a refusal: its number, and of a wrong index the one expected and the one found.
 pub fn refusal(out: &mut [u8], to: usize, told: BoxRefusal) -> usize {
     let next = start(out, to, b'R');

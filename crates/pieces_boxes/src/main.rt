@@ -1,65 +1,20 @@
-// Runs pieces of the format: each line of the list is a record and a file in hex. The record is given nothing, then the file;
-// if it refuses, the file again and nothing. Prints a line for each: the answers, then the record's kind, codestream boxes, total and
-// newest header, and of a refused record its refusal's text and the place that the refusal names.
-use jxl_record::DetectState;
-use jxl_record::JxlpIndexState;
-use jxl_refusal_text::Put;
-use jxl_refusals::BoxRefusal;
+// Runs pieces of the format: each line of the list is a record and a file in hex, and for a piece of the end one word more. The record is
+// given nothing, then the file; if it refuses, the file again and nothing. Prints a line for each: the answers, then the record's kind,
+// codestream boxes, total and newest header, and of a record that takes no more the text that says why and the place that it names.
 use jxl_totals::ContainerParser;
 
-mod record;
-
-// Prints a refusal's text as the library puts it, and the place that it names.
-fn print_refusal(refusal: BoxRefusal, place: u64) {
-    let mut text = [0u8; 64];
-    io::write_all(1, b": ");
-    if let Put::Written(n) = jxl_refusal_text::put_refusal(&mut text, 0, refusal) {
-        io::write_all(1, jxl_slices::part(&text, 0, n));
-    }
-    io::write_all(1, b", at ");
-    io::print_decimal(1, place);
-}
-
-// Prints the `jxlc` and `jxlp` boxes so far.
-fn print_boxes(jxlp: JxlpIndexState) {
-    match jxlp {
-        JxlpIndexState::Initial => io::write_all(1, b" boxes none"),
-        JxlpIndexState::SingleJxlc => io::write_all(1, b" boxes jxlc"),
-        JxlpIndexState::JxlpFinished => io::write_all(1, b" boxes last"),
-        JxlpIndexState::Jxlp(i) => {
-            io::write_all(1, b" boxes jxlp ");
-            io::print_decimal(1, i as u64)
-        }
-    }
-    ;
-}
-
-// Prints the kind that the record tells on request, its boxes, its total and its newest header, and how it was refused.
-fn print_record(parser: ContainerParser, place: u64) {
-    io::write_all(1, b" kind ");
-    let kind = [box_lines::letter(parser.kind())];
-    io::write_all(1, &kind);
-    let boxes = parser.boxes;
-    let jxlp = boxes.jxlp;
-    print_boxes(jxlp);
-    io::write_all(1, b" total ");
-    io::print_decimal(1, parser.total);
-    io::write_all(1, b" header ");
-    io::print_decimal(1, parser.header);
-    let state = boxes.state;
-    if let DetectState::Refused { kind: _, refusal } = state {
-        print_refusal(refusal, place);
-    }
-    io::write_all(1, b"\n");
-}
+mod ends;
 
 // Feeds the file to the record, prints what that gives, and answers the feed behind it.
 fn fed(name: &[u8], parser: ContainerParser, file: &[u8]) -> box_answers::Feed {
-    let mut out = [0u8; 1024];
+    let mut out = [0u8; 256];
     let after = box_answers::packet(&mut out, file, file.len(), box_answers::start(parser));
-    io::write_all(1, name);
-    io::write_all(1, jxl_slices::part(&out, 0, after.to));
-    print_record(after.parser, after.place);
+    box_records::print_answer(
+        name,
+        jxl_slices::part(&out, 0, after.to),
+        after.parser,
+        after.place,
+    );
     after
 }
 
@@ -73,7 +28,22 @@ fn piece(parser: ContainerParser, file: &[u8]) {
     }
 }
 
-// One line of the list: `NAME: STATE LEFT BOXES TOTAL HEX`, printed as far as its name and run; any other line is a heading.
+// A piece by the word behind its file: none; or of the end, `.` for a record that is ended at once, `+` for one that is ended behind one
+// step, else the length of the first of two packets.
+fn run_piece(parser: ContainerParser, file: &[u8], line: &[u8], word: usize) {
+    match replay_text::byte_at(line, word) {
+        0 => piece(parser, file),
+        b'.' => ends::at_once(parser, file),
+        b'+' => ends::early(parser, file),
+        _ => ends::piece(
+            parser,
+            file,
+            replay_text::parse_decimal(line, word).value as usize,
+        ),
+    }
+}
+
+// One line of the list: `NAME: STATE LEFT BOXES TOTAL HEX WORD`, printed as far as its name and run; any other line is a heading.
 fn take_line(line: &[u8]) {
     let colon = replay_text::find(line, 0, b':');
     io::write_all(1, jxl_slices::part(line, 0, colon));
@@ -86,10 +56,17 @@ fn take_line(line: &[u8]) {
     let boxes = replay_text::find(line, std::num::wrapping_add_usize(left, 1), b' ');
     let total = replay_text::find(line, std::num::wrapping_add_usize(boxes, 1), b' ');
     let hex = replay_text::find(line, std::num::wrapping_add_usize(total, 1), b' ');
+    let bytes = std::num::wrapping_add_usize(hex, 1);
+    let word = replay_text::find(line, bytes, b' ');
     let mut file = [0u8; 128];
-    let n = box_lines::put_file(&mut file, line, std::num::wrapping_add_usize(hex, 1));
-    let parser = record::parser(line, state, left, boxes, total);
-    piece(parser, jxl_slices::part(&file, 0, n));
+    let n = box_lines::put_file(&mut file, jxl_slices::part(line, 0, word), bytes);
+    let parser = box_records::parser(line, state, left, boxes, total);
+    run_piece(
+        parser,
+        jxl_slices::part(&file, 0, n),
+        line,
+        std::num::wrapping_add_usize(word, 1),
+    );
 }
 
 // Goes through the list, line by line.
@@ -102,8 +79,13 @@ fn run(text: &[u8]) {
     }
 }
 
+// Room for the list. Made in a function of its own, so that no proof looks into its elements.
+fn room() -> [u8; 16384] {
+    [0; 16384]
+}
+
 fn main() {
-    let mut text = [0u8; 16384];
+    let mut text = room();
     let n = io::read_full(0, &mut text);
     run(&text[..n]);
 }

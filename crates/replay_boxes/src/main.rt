@@ -1,10 +1,13 @@
-// Replays the Rust's stored answers on boxes: each file of the list is fed in the packets of each of its lines, and every
-// event, count and refusal is compared with the line, refusals 10 to 19 as 1. Prints the numbers of the first lines that differ, then the counts.
+// Replays the stored answers on boxes: each file of the list is fed in the packets of each of its lines, and every event, count and refusal
+// is compared with the Rust's in the line, refusals 10 to 19 as 1. Behind each feeding the file is ended, and what that comes to is compared
+// with what the judge says in the file's line `e`. Prints the numbers of the first lines that differ, then the counts.
 
-// The lines passed, the length of the newest file, the feedings compared, the answers in them, and the feedings that differ.
+// The lines passed, the length of the newest file, the place behind the token of its end, which stands behind the file, the feedings
+// compared, the answers in them and of their ends, and the feedings that differ.
 struct Tally {
     lines: u64,
     file_len: usize,
+    token_end: usize,
     feedings: u64,
     answers: u64,
     differ: u64,
@@ -63,49 +66,104 @@ fn merged(out: &mut [u8], text: &[u8]) -> usize {
     to
 }
 
-// Compares a line `CUTS = EVENTS` with what feeding the file in those packets gives.
-fn compare(line: &[u8], file: &[u8], tally: Tally) -> Tally {
+// Whether the answers of a feeding are the line's EVENTS.
+fn is_told(answers: &[u8], told: &[u8]) -> bool {
+    let mut out = [0u8; 1024];
+    let n = merged(&mut out, answers);
+    check::same(jxl_slices::part(&out, 0, n), told)
+}
+
+// Whether the answer is one refusal, with no mark behind it, and not CutShort.
+fn is_refusal(answer: &[u8]) -> bool {
+    if replay_text::byte_at(answer, 0) != b'R' {
+        return false;
+    }
+    if replay_text::find(answer, 0, b' ') < answer.len() {
+        return false;
+    }
+    !check::same(answer, b"R21")
+}
+
+// Whether the answer of an end call is what the token says: `!` is CutShort, and `R` the refusal of the feeding, to which `box_ends` holds it.
+fn is_end(answer: &[u8], token: &[u8]) -> bool {
+    if check::same(token, b"!") {
+        return check::same(answer, b"R21");
+    }
+    if check::same(token, b"R") {
+        return is_refusal(answer);
+    }
+    check::same(answer, token)
+}
+
+// Whether feeding the file in these packets gives these EVENTS, and ending it then, with the bytes left unread, what the token says.
+fn agrees(cuts: &[u8], told: &[u8], file: &[u8], token: &[u8]) -> bool {
+    let mut answers = [0u8; 1024];
+    let feed = box_answers::whole(&mut answers, file, cuts);
+    if !is_told(jxl_slices::part(&answers, 0, feed.to), told) {
+        return false;
+    }
+    let mut end = [0u8; 64];
+    let unread = jxl_slices::part(file, feed.consumed, file.len());
+    let ended = box_ends::end(&mut end, 0, feed, unread);
+    is_end(jxl_slices::part(&end, 0, ended.to), token)
+}
+
+// Compares a line `CUTS = EVENTS`, and the end behind it, which is one answer more.
+fn compare(line: &[u8], file: &[u8], token: &[u8], tally: Tally) -> Tally {
     let equals = replay_text::find(line, 0, b'=');
     let cuts = jxl_slices::part(line, 0, std::num::wrapping_sub_usize(equals, 1));
     let told = jxl_slices::part(line, std::num::wrapping_add_usize(equals, 2), line.len());
-    let mut out = [0u8; 1024];
-    let mut answers = [0u8; 1024];
-    let n = box_answers::whole(&mut answers, file, cuts);
-    let m = merged(&mut out, jxl_slices::part(&answers, 0, n));
+    let answers = std::num::wrapping_add_u64(answers_in(told), 1);
     let mut differ = tally.differ;
-    if !check::same(jxl_slices::part(&out, 0, m), told) {
+    if !agrees(cuts, told, file, token) {
         print_differs(std::num::wrapping_add_u64(tally.lines, 1), differ);
         differ = std::num::wrapping_add_u64(differ, 1);
     }
     Tally {
         lines: std::num::wrapping_add_u64(tally.lines, 1),
         file_len: tally.file_len,
+        token_end: tally.token_end,
         feedings: std::num::wrapping_add_u64(tally.feedings, 1),
-        answers: std::num::wrapping_add_u64(tally.answers, answers_in(told)),
+        answers: std::num::wrapping_add_u64(tally.answers, answers),
         differ,
     }
 }
 
-// One line of the list: a new file, or a feeding of the newest.
-fn take_line(file: &mut [u8], line: &[u8], tally: Tally) -> Tally {
-    if replay_text::byte_at(line, 0) == b'f' {
-        return Tally {
-            lines: std::num::wrapping_add_u64(tally.lines, 1),
-            file_len: box_lines::put_file(file, line, 2),
-            feedings: tally.feedings,
-            answers: tally.answers,
-            differ: tally.differ,
-        };
+// The tally behind a line that tells of a file, and not of a feeding.
+fn passed(tally: Tally, file_len: usize, token_end: usize) -> Tally {
+    Tally {
+        lines: std::num::wrapping_add_u64(tally.lines, 1),
+        file_len,
+        token_end,
+        feedings: tally.feedings,
+        answers: tally.answers,
+        differ: tally.differ,
     }
-    compare(line, jxl_slices::part(file, 0, tally.file_len), tally)
 }
 
-// Goes through the list, line by line. A file of the list has at most 80 bytes.
+// One line of the list: a new file, whose end is not told yet; what the end of the newest comes to, put behind it; or a feeding of it.
+fn take_line(file: &mut [u8], line: &[u8], tally: Tally) -> Tally {
+    let len = tally.file_len;
+    let first = replay_text::byte_at(line, 0);
+    if first == b'f' {
+        let n = box_lines::put_file(file, line, 2);
+        return passed(tally, n, n);
+    }
+    if first == b'e' {
+        let end = replay_text::put_bytes(file, len, jxl_slices::part(line, 2, line.len()));
+        return passed(tally, len, end);
+    }
+    let token = jxl_slices::part(file, len, tally.token_end);
+    compare(line, jxl_slices::part(file, 0, len), token, tally)
+}
+
+// Goes through the list, line by line. A file of the list has at most 80 bytes, and the token of its end at most 9.
 fn replay(text: &[u8]) -> Tally {
     let mut file = [0u8; 128];
     let mut tally = Tally {
         lines: 0,
         file_len: 0,
+        token_end: 0,
         feedings: 0,
         answers: 0,
         differ: 0,
@@ -131,7 +189,7 @@ fn main() {
     io::print_decimal(1, tally.answers);
     io::write_all(1, b" answers in ");
     io::print_decimal(1, tally.feedings);
-    io::write_all(1, b" feedings compared, ");
+    io::write_all(1, b" feedings and their ends compared, ");
     io::print_decimal(1, tally.differ);
     io::write_all(1, b" feedings differ\n");
 }

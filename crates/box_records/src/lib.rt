@@ -1,9 +1,11 @@
-// A record written as text: a letter for its state, the bytes left, the codestream boxes so far, the total.
+// Records as text, for the pieces: one read from a line of the list, a letter for its state, the bytes left, the codestream boxes so far, the
+// total; and one printed behind the answers that led to it.
 use jxl_headers::BytesLeft;
 use jxl_record::BitstreamKind;
 use jxl_record::BoxParser;
 use jxl_record::DetectState;
 use jxl_record::JxlpIndexState;
+use jxl_refusal_text::Put;
 use jxl_refusals::BoxRefusal;
 use jxl_totals::ContainerParser;
 
@@ -84,4 +86,58 @@ pub fn parser(
         total,
         header: total / 2,
     }
+}
+
+// Prints a refusal's text as the library puts it, and the place that it names.
+fn print_refusal(why: BoxRefusal, place: u64) {
+    let mut text = [0u8; 64];
+    io::write_all(1, b": ");
+    if let Put::Written(n) = jxl_refusal_text::put_refusal(&mut text, 0, why) {
+        io::write_all(1, jxl_slices::part(&text, 0, n));
+    }
+    io::write_all(1, b", at ");
+    io::print_decimal(1, place);
+}
+
+// Prints the `jxlc` and `jxlp` boxes so far.
+fn print_boxes(jxlp: JxlpIndexState) {
+    match jxlp {
+        JxlpIndexState::Initial => io::write_all(1, b" boxes none"),
+        JxlpIndexState::SingleJxlc => io::write_all(1, b" boxes jxlc"),
+        JxlpIndexState::JxlpFinished => io::write_all(1, b" boxes last"),
+        JxlpIndexState::Jxlp(i) => {
+            io::write_all(1, b" boxes jxlp ");
+            io::print_decimal(1, i as u64)
+        }
+    }
+    ;
+}
+
+// Prints the kind that the record tells on request, its boxes, its total and its newest header, and why it takes no more.
+fn print_record(parser: ContainerParser, place: u64) {
+    io::write_all(1, b" kind ");
+    let kind = [box_lines::letter(parser.kind())];
+    io::write_all(1, &kind);
+    let boxes = parser.boxes;
+    let jxlp = boxes.jxlp;
+    print_boxes(jxlp);
+    io::write_all(1, b" total ");
+    io::print_decimal(1, parser.total);
+    io::write_all(1, b" header ");
+    io::print_decimal(1, parser.header);
+    let state = boxes.state;
+    if let DetectState::Refused {
+        kind: _,
+        refusal: why,
+    } = state {
+        print_refusal(why, place);
+    }
+    io::write_all(1, b"\n");
+}
+
+// Prints a line: the name of what was done, the answers to it, and the record that it left.
+pub fn print_answer(name: &[u8], text: &[u8], parser: ContainerParser, place: u64) {
+    io::write_all(1, name);
+    io::write_all(1, text);
+    print_record(parser, place);
 }
