@@ -48,7 +48,8 @@ pub fn after(boxes: BoxParser, total: u64, header: u64) -> ContainerParser
     }
 }
 
-// A refusal, behind `total` bytes; or Closed, of a parser that was ended.
+// A refusal, behind `total` bytes; or Closed, of a parser that was ended. The test has a value: with a branch that returns a step on small
+// boxes took a seventh more instructions.
 pub fn refused(
     rule: BoxRefusal,
     boxes: BoxParser,
@@ -59,19 +60,20 @@ pub fn refused(
     ensures { λ r. ⌜ told r ≡ numbered (Spec.refusing rule (Spec.counted boxes total header) consumed) ⌝ }
 {
     if is_closed(rule) {
-        return StepResult::Closed {
+        StepResult::Closed {
             next: after(boxes, total, header),
             consumed,
-        };
-    }
-    StepResult::Refused {
-        next: after(boxes, total, header),
-        consumed,
-        refusal: FileRefusal {
-            rule,
-            total,
-            place: place(rule, total, header),
-        },
+        }
+    } else {
+        StepResult::Refused {
+            next: after(boxes, total, header),
+            consumed,
+            refusal: FileRefusal {
+                rule,
+                total,
+                place: place(rule, total, header),
+            },
+        }
     }
 }
 

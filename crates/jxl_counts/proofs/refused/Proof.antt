@@ -14,17 +14,17 @@ is-closed-requires c κs = search needs
 after-requires : tie.Need-after-requires
 after-requires c κs = search needs
 
-returns : tie.Need-returns
-returns c =
-    let tested = c .before .before in
-    let ended : isClosed (tested .before .args .rule) ≡ true = sym (tested .is-closed .ensures) ∙ c .before .if1 .taken in
-    rw (c .after .ensures, closed-alone (tested .before .args .rule) ended)
-
 after-requires-2 : tie.Need-after-requires-2
 after-requires-2 c κs = search needs
 
 place-requires : tie.Need-place-requires
 place-requires c κs = search needs
+
+returns : tie.Need-returns
+returns c =
+    let tested = c .before .before in
+    let ended : isClosed (tested .before .args .rule) ≡ true = sym (tested .is-closed .ensures) ∙ c .before .if1 .taken in
+    rw (c .after .ensures, closed-alone (tested .before .args .rule) ended)
 
 returns-2 : tie.Need-returns-2
 returns-2 c =
@@ -35,4 +35,4 @@ returns-2 c =
 pub refused-spec : {M : Type 1} → statement M
 refused-spec =
     tie.close
-    (tie.spec is-closed-requires after-requires returns after-requires-2 place-requires returns-2)
+    (tie.spec is-closed-requires after-requires after-requires-2 place-requires returns returns-2)
