@@ -1,3 +1,4 @@
 pub mod Lending
 pub mod Methods
 pub mod Unique
+pub mod Walk
