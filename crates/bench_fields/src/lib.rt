@@ -1,5 +1,7 @@
 // Fields read one behind the other, for the bench to call and time. Each driver reads `count` fields of its kind, and answers the
 // sum of their values; it stops where one is refused.
+#![tactic(auto)]
+
 use jxl_bitstream::{FieldRefusal, Moved, ReadBool, ReadF16, ReadU32, ReadU64, U32Specifier};
 use std::num::wrapping_add_u64;
 

@@ -1,4 +1,6 @@
 // What the drivers of the bench share: the packets of a file, and the loop over its steps.
+#![tactic(auto)]
+
 use jxl_container::{ContainerParser, FileEvent, ParseEvent, StepResult};
 use jxl_slices::part;
 

@@ -1,4 +1,6 @@
 // All steps of a file, for the bench to call and time. `step` is called from one place, so the compiler takes it into the loop.
+#![tactic(auto)]
+
 use jxl_container::ContainerParser;
 
 // The events of a file given in packets: the sum of their weights.

@@ -1,4 +1,6 @@
 // All turns on a file, for the bench to call and time.
+#![tactic(auto)]
+
 ghost use Rattle.std.specs.Prelude.{◌≤◌};
 
 use jxl_container::ContainerParser;

@@ -1,5 +1,7 @@
 // All steps of a file, for the bench to call and time. `step` is called from two places, as in a program that looks at the first
 // event by itself: then the compiler may leave it a function of its own, its record and its answer in memory.
+#![tactic(auto)]
+
 use jxl_container::{ContainerParser, StepResult};
 
 // The events of a file given in packets, the first of which shows the kind: the sum of their weights.

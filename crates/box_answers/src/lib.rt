@@ -1,4 +1,6 @@
 // What feeding a file to the parser in packets shows, each behind the bytes that the feeds before left unread, as tokens of the stored lists.
+#![tactic(auto)]
+
 use jxl_container::{
     BitstreamKind, BoxRefusal, ContainerParser, FileEvent, FileRefusal, ParseEvent, StepResult,
 };
@@ -6,7 +8,7 @@ use jxl_slices::part;
 
 // The record, its total at the start, the bytes consumed since, counted here, the kind that an event told, the place behind the answer
 // so far, the number of the newest refusal and the place that it named, and how the last step ended.
-#[derive(Drop)]
+#[derive(Clone, Copy)]
 pub struct Feed {
     pub parser: ContainerParser,
     pub from: u64,

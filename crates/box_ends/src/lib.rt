@@ -1,10 +1,12 @@
 // What the end call comes to behind a feed: its answer as a token of the stored lists, and a mark where it, or a call behind it, breaks a
 // rule that the lists do not spell out.
+#![tactic(auto)]
+
 use box_answers::Feed;
 use jxl_container::{ContainerParser, EndResult, FileRefusal, MaybeEvent, StepResult};
 
 // The record that an end call left, the place behind its answer, whether it was done, and the place that a refusal named; done, the total.
-#[derive(Drop)]
+#[derive(Clone, Copy)]
 pub struct Ended {
     pub parser: ContainerParser,
     pub to: usize,

@@ -1,5 +1,7 @@
 // The stored lists of boxes: the bytes of a file read from a line, and what the steps show put one behind the other into a buffer, in the
 // words of the list. For the programs that replay the lists and that run the pieces.
+#![tactic(auto)]
+
 use jxl_events::ParseEvent;
 use jxl_record::BitstreamKind;
 use jxl_refusals::BoxRefusal;

@@ -1,5 +1,7 @@
 // Records as text, for the pieces: one read from a line of the list, a letter for its state, the bytes left, the codestream boxes so far, the
 // total; and one printed behind the answers that led to it.
+#![tactic(auto)]
+
 use jxl_headers::BytesLeft;
 use jxl_record::{BitstreamKind, BoxParser, DetectState, JxlpIndexState};
 use jxl_refusal_text::Put;

@@ -1,11 +1,13 @@
 // Lists the boxes of a small file that comes in two packets and then ends, as a user of the container would.
+#![tactic(auto)]
+
 ghost use Rattle.std.specs.Prelude.{◌≤◌, length};
 
 use jxl_container::{ContainerParser, EndResult, FileEvent, MaybeEvent, StepResult};
 use jxl_lines::{Line, StopWord};
 use jxl_listing::Put;
 
-#[derive(Drop)]
+#[derive(Clone, Copy)]
 struct Fed {
     parser: ContainerParser,
     consumed: usize,

@@ -1,4 +1,6 @@
 // Fields read through `Bitstream`. The README has this program's text.
+#![tactic(auto)]
+
 ghost use Rattle.std.specs.Prelude.{◌≡◌};
 ghost use Rattle.jxl_bit_rules.specs.Told.{told_u32};
 ghost use Rattle.jxl_field_rules.specs.Fields as F;
@@ -7,7 +9,7 @@ ghost use Rattle.example_fields.specs.InTurn.{InTurn, after_flag};
 use jxl_bitstream::{Bitstream, ReadU32, ResultBool, ResultU32, ResultUnit, U32Specifier};
 use libc::STDOUT_FILENO;
 
-#[derive(Drop)]
+#[derive(Clone, Copy)]
 struct Fields {
     start: ResultUnit,
     flag: ResultBool,

@@ -1,4 +1,6 @@
 // Feeds and ends a parser that lies in a local: it is lent by `&mut`, and each call changes it in place.
+#![tactic(auto)]
+
 use jxl_container::{ContainerParser, MaybeEvent};
 use jxl_feed::Fed;
 use jxl_feed_end::Ended;

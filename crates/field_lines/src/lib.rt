@@ -1,4 +1,6 @@
 // Field calls and their answers as lines of text, one call a line, in the language of the stored list of the Rust's answers.
+#![tactic(auto)]
+
 ghost use Rattle.std.specs.Prelude.{◌<◌, ◌≤◌, length};
 
 use jxl_bitstream::{FieldRefusal, Moved, ReadBool, ReadF16, ReadU32, ReadU64, U32Specifier};
@@ -6,14 +8,14 @@ use replay_text::{byte_at, digit, parse_decimal, put_byte, put_bytes, put_decima
 use std::num::wrapping_add_usize;
 
 // How long the answer's text is, and the position after the call.
-#[derive(Drop)]
+#[derive(Clone, Copy)]
 pub struct Put {
     pub len: usize,
     pub at: usize,
 }
 
 // What a call answers, as the list tells it: a number, an f32's bits, the place alone, a checksum alone, or a refusal.
-#[derive(Drop)]
+#[derive(Clone, Copy)]
 enum Answer {
     Number(u64, usize),
     Bits(u32, usize),
@@ -22,7 +24,7 @@ enum Answer {
     Refused(FieldRefusal, usize),
 }
 
-#[derive(Drop)]
+#[derive(Clone, Copy)]
 struct Choice {
     d: U32Specifier,
     next: usize,

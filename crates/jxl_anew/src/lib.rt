@@ -1,4 +1,6 @@
 // A record rebuilt field by field, which a step does first: it changes nothing, and is quicker than a plain copy.
+#![tactic(auto)]
+
 ghost use Rattle.std.specs.Prelude.{◌≡◌};
 
 use jxl_headers::BytesLeft;

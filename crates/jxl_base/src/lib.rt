@@ -1,1 +1,2 @@
 // What every crate's promises share. No code.
+#![tactic(auto)]

@@ -1,7 +1,8 @@
 // What bits at a position are, what each call on them answers, and the theorems of both: definitions and proofs, and the types of the
 // answers. No code: `jxl_bits` has it.
+#![tactic(auto)]
 
-#[derive(Drop)]
+#[derive(Clone, Copy)]
 pub enum FieldRefusal {
     UnexpectedEof,
     NonZeroPadding,
@@ -12,19 +13,19 @@ pub enum FieldRefusal {
 }
 
 // Each answer holds the position after the call, refusals too.
-#[derive(Drop)]
+#[derive(Clone, Copy)]
 pub enum ReadU32 {
     Value(u32, usize),
     Refused(FieldRefusal, usize),
 }
 
-#[derive(Drop)]
+#[derive(Clone, Copy)]
 pub enum ReadBool {
     Value(bool, usize),
     Refused(FieldRefusal, usize),
 }
 
-#[derive(Drop)]
+#[derive(Clone, Copy)]
 pub enum Moved {
     To(usize),
     Refused(FieldRefusal, usize),

@@ -1,5 +1,7 @@
 // Bits by position: reading them and moving over them, which `jxl_reads` and `jxl_moves` do and this hands on, and the bits up to a byte.
 // The rules are in `jxl_bit_rules`.
+#![tactic(auto)]
+
 ghost use Rattle.std.specs.Prelude.{◌≡◌};
 ghost use Rattle.jxl_bit_rules.specs.Readers as F;
 ghost use Rattle.jxl_bit_rules.specs.Told.{told_moved};

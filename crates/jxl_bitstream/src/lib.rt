@@ -1,5 +1,7 @@
 // JPEG XL fields: the names of the Rust's crate, from one place. There is no code here.
 // By position:
+#![tactic(auto)]
+
 pub use jxl_bits::{
     FieldRefusal, Moved, ReadBool, ReadU32, consume_bits, num_read_bits, peek_bits, read_bits,
     read_bool, skip_bits, zero_pad_to_byte,

@@ -1,5 +1,7 @@
 // The rules on boxes, after the Rust's container/parse.rs, one step of them: a record by value and a part of the input go in; an event,
 // WANT or a refusal comes back, each with the next record and the bytes consumed. One small function for each state.
+#![tactic(auto)]
+
 ghost use Rattle.std.specs.Prelude.{◌≡◌, false, drop};
 ghost use Rattle.jxl_headers.specs.Header.{header_of};
 ghost use Rattle.jxl_impossible.specs.Impossible.{impossible, over_index};

@@ -1,5 +1,7 @@
 // One step at the inner type that a `brob` payload starts with, after the Rust's container/parse.rs. The input is lent whole, and the
 // payload starts `at` bytes on.
+#![tactic(auto)]
+
 ghost use Rattle.std.specs.Prelude.{◌≡◌, true, drop};
 ghost use Rattle.jxl_reach.specs.Reach.{less, to_end};
 ghost use Rattle.jxl_record.specs.Record.{at};

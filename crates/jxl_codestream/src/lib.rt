@@ -1,4 +1,6 @@
 // One step inside a codestream, after the Rust's container/parse.rs. The input is lent whole, and the payload starts `at` bytes on.
+#![tactic(auto)]
+
 ghost use Rattle.std.specs.Prelude.{◌≡◌, ◌+◌, ◌^◌, ◌<◌, drop};
 ghost use Rattle.jxl_grammar.specs.Naming.{numbered};
 ghost use Rattle.jxl_grammar.specs.Step as Spec;

@@ -1,5 +1,7 @@
 // One step of the container parser: the rules on boxes, on the input up to the limit of a file, with the bytes counted. A record by
 // value and a part of the input go in; an event, WANT, a refusal or Closed comes back, each with the next record and the bytes consumed.
+#![tactic(auto)]
+
 ghost use Rattle.std.specs.Prelude.{◌≡◌};
 ghost use Rattle.jxl_totals.specs.Naming.{numbered};
 ghost use Rattle.jxl_totals.specs.Step as Spec;

@@ -1,5 +1,7 @@
 // What a step leaves, with its count: the record behind it, and a refusal with its total and its place. One small function for each;
 // jxl_container's step puts them together.
+#![tactic(auto)]
+
 ghost use Rattle.std.specs.Prelude.{◌≡◌};
 ghost use Rattle.jxl_grammar.specs.Step as Boxes;
 ghost use Rattle.jxl_totals.specs.Naming.{numbered};
@@ -13,7 +15,7 @@ use jxl_refusals::BoxRefusal;
 use jxl_totals::{ContainerParser, FileRefusal};
 
 // A step's answer. The next record and the bytes consumed come first in every case, so that the compiler copies no padding.
-#[derive(Drop)]
+#[derive(Clone, Copy)]
 pub enum StepResult {
     Shown {
         next: ContainerParser,

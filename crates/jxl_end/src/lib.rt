@@ -1,5 +1,7 @@
 // The end call: the file has no more bytes than were fed, and these are unread. It gives the one event still owed, or none, and DONE; or
 // it refuses the file as cut short. No byte is consumed. A parser that was ended takes no more, as a refused one.
+#![tactic(auto)]
+
 ghost use Rattle.std.specs.Prelude.{◌≡◌};
 ghost use Rattle.jxl_endings.specs.End as Spec;
 ghost use Rattle.jxl_owed.specs.Told.{told_close};
@@ -14,7 +16,7 @@ use jxl_refusals::BoxRefusal;
 use jxl_totals::{ContainerParser, FileRefusal};
 
 // An end call's answer.
-#[derive(Drop)]
+#[derive(Clone, Copy)]
 pub enum EndResult {
     Done {
         next: ContainerParser,

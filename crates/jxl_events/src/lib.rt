@@ -1,4 +1,6 @@
 // What a step shows: the parts of the input that events name, and an event's place in the file by the bytes consumed.
+#![tactic(auto)]
+
 ghost use Rattle.std.specs.Prelude.{◌≡◌, ◌-◌};
 ghost use Rattle.jxl_events.specs.Event as Spec;
 ghost use Rattle.jxl_events.specs.Total.{in_file};
@@ -6,7 +8,7 @@ ghost use Rattle.jxl_events.specs.Total.{in_file};
 use jxl_record::BitstreamKind;
 
 // What a step shows. A payload is named by its place and length: in the step's input, or, behind `in_file` and a joiner, in the file.
-#[derive(Drop)]
+#[derive(Clone, Copy)]
 pub enum ParseEvent {
     BitstreamKind(BitstreamKind),
     NoMoreAuxBox,
@@ -30,7 +32,7 @@ pub enum ParseEvent {
 }
 
 // An event of a file, with the bytes consumed when it was given.
-#[derive(Drop)]
+#[derive(Clone, Copy)]
 pub struct FileEvent {
     pub event: ParseEvent,
     pub total: u64,

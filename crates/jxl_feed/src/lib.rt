@@ -1,4 +1,6 @@
 // The parser lent by `&mut` and changed in place, under the Rust's name: a thin call over the step by value.
+#![tactic(auto)]
+
 ghost use Rattle.std.specs.Prelude.{◌≡◌};
 ghost use Rattle.jxl_totals.specs.Naming.{numbered};
 ghost use Rattle.jxl_totals.specs.Step as Spec;
@@ -7,7 +9,7 @@ ghost use Rattle.jxl_feed.specs.Fed.{told_fed};
 use jxl_container::{BitstreamKind, ContainerParser, FileEvent, FileRefusal, StepResult};
 
 // A step's answer without the parser.
-#[derive(Drop)]
+#[derive(Clone, Copy)]
 pub enum Fed {
     Shown {
         event: FileEvent,
@@ -27,7 +29,7 @@ pub enum Fed {
 }
 
 // A step's answer, with the parser apart from the rest.
-#[derive(Drop)]
+#[derive(Clone, Copy)]
 struct Apart {
     next: ContainerParser,
     fed: Fed,

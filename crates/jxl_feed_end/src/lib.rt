@@ -1,4 +1,6 @@
 // The end call of a parser lent by `&mut`, which closes it in place: a thin call over the end call by value.
+#![tactic(auto)]
+
 ghost use Rattle.std.specs.Prelude.{◌≡◌};
 ghost use Rattle.jxl_endings.specs.End as Spec;
 ghost use Rattle.jxl_feed_end.specs.Ended.{told_ended};
@@ -6,14 +8,14 @@ ghost use Rattle.jxl_feed_end.specs.Ended.{told_ended};
 use jxl_container::{ContainerParser, EndResult, FileRefusal, MaybeEvent};
 
 // An end call's answer without the parser.
-#[derive(Drop)]
+#[derive(Clone, Copy)]
 pub enum Ended {
     Done { owed: MaybeEvent },
     Refused { refusal: FileRefusal },
 }
 
 // An end call's answer, with the parser apart from the rest.
-#[derive(Drop)]
+#[derive(Clone, Copy)]
 struct Apart {
     next: ContainerParser,
     ended: Ended,

@@ -1,4 +1,6 @@
 // Answers of U64 and F16 without the position, and the position beside them, as `jxl_results` has those of the others.
+#![tactic(auto)]
+
 ghost use Rattle.std.specs.Prelude.{◌≡◌};
 ghost use Rattle.jxl_field_rules.specs.Told.{told_u64, told_f16};
 ghost use Rattle.jxl_field_results.specs.Results.{u64_at, f32_at};
@@ -6,13 +8,13 @@ ghost use Rattle.jxl_field_results.specs.Results.{u64_at, f32_at};
 use jxl_bit_rules::FieldRefusal;
 use jxl_field_rules::{ReadF16, ReadU64};
 
-#[derive(Drop)]
+#[derive(Clone, Copy)]
 pub enum ResultU64 {
     Value(u64),
     Refused(FieldRefusal),
 }
 
-#[derive(Drop)]
+#[derive(Clone, Copy)]
 pub enum ResultF32 {
     Value(f32),
     UnexpectedEof,
@@ -21,13 +23,13 @@ pub enum ResultF32 {
 }
 
 // A result, and the position after the call.
-#[derive(Drop)]
+#[derive(Clone, Copy)]
 pub struct SplitU64 {
     pub at: usize,
     pub result: ResultU64,
 }
 
-#[derive(Drop)]
+#[derive(Clone, Copy)]
 pub struct SplitF32 {
     pub at: usize,
     pub result: ResultF32,

@@ -1,5 +1,7 @@
 // The fields made of bits: Enum and F16; and U32 and U64, which `jxl_u32` and `jxl_u64` read and this hands on. The rules are in
 // `jxl_field_rules`.
+#![tactic(auto)]
+
 ghost use Rattle.std.specs.Prelude.{◌≡◌};
 ghost use Rattle.jxl_bit_rules.specs.Inside.{Ready};
 ghost use Rattle.jxl_bit_rules.specs.Told.{told_u32};

@@ -1,4 +1,6 @@
 // The kind of a file by its first bytes: the signature, read by one step of a new parser.
+#![tactic(auto)]
+
 ghost use Rattle.std.specs.Prelude.{◌≡◌};
 ghost use Rattle.jxl_headers.specs.Bytes.{starts};
 ghost use Rattle.jxl_signatures.specs.Signature.{container_sig};

@@ -1,4 +1,6 @@
 // The steps that look at no box, after the Rust's container/parse.rs: at the signature, and on an empty input.
+#![tactic(auto)]
+
 ghost use Rattle.std.specs.Prelude.{◌≡◌, []};
 ghost use Rattle.jxl_signatures.specs.Signature.{signature_of};
 ghost use Rattle.jxl_grammar.specs.Naming.{numbered};

@@ -1,11 +1,13 @@
 // An F16 code as the f32 that is the same number. The rule is in `specs/Half.antt`.
+#![tactic(auto)]
+
 ghost use Rattle.std.specs.Prelude.{◌≡◌, ◌+◌, ◌*◌, ◌^◌, ◌<◌};
 ghost use Rattle.std.specs.Float.{binary32};
 ghost use Rattle.std.specs.Float.Ieee.{of_bits};
 ghost use Rattle.jxl_half.specs.Half.{magnitude};
 ghost use Rattle.jxl_half.specs.Widen.{ExactlyWidened, told, widened};
 
-#[derive(Drop)]
+#[derive(Clone, Copy)]
 pub enum Widened {
     Value(f32),
     InvalidFloat,

@@ -33,14 +33,14 @@ pub const JPEG_RECONSTRUCTION: u32 = 0x6a627264;
 pub const HDR_GAIN_MAP: u32 = 0x6a68676d;
 
 // A box's type and how far its payload reaches.
-#[derive(Drop)]
+#[derive(Clone, Copy)]
 pub struct ContainerBoxHeader {
     pub ty: u32,
     pub box_size: BytesLeft,
 }
 
 // Result of reading a box header.
-#[derive(Drop)]
+#[derive(Clone, Copy)]
 pub enum HeaderParseResult {
     Done {
         header: ContainerBoxHeader,

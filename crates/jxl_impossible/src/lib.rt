@@ -1,4 +1,6 @@
 // The records that no file leads to, which a step refuses.
+#![tactic(auto)]
+
 ghost use Rattle.std.specs.Prelude.{◌≡◌};
 ghost use Rattle.jxl_impossible.specs.Impossible.{impossible, no_index, over_index};
 

@@ -1,4 +1,6 @@
 // Joins the parts of a payload that cuts parted.
+#![tactic(auto)]
+
 ghost use Rattle.std.specs.Prelude.{◌≡◌};
 ghost use Rattle.jxl_joiner.specs.Joiner.{added, adding, putting};
 
@@ -6,7 +8,7 @@ use jxl_events::FileEvent;
 use jxl_parts::{joins, reaching};
 
 // An event, or none.
-#[derive(Drop)]
+#[derive(Clone, Copy)]
 pub enum MaybeEvent {
     None,
     Some(FileEvent),
@@ -14,13 +16,13 @@ pub enum MaybeEvent {
 
 // Joins payload parts that lie end to end. It takes the parser's events one at a time, gives each its place in the file, and holds
 // the newest.
-#[derive(Drop)]
+#[derive(Clone, Copy)]
 pub struct Joiner {
     pub held: MaybeEvent,
 }
 
 // What adding an event hands back, and the joiner then.
-#[derive(Drop)]
+#[derive(Clone, Copy)]
 pub struct Added {
     pub out: MaybeEvent,
     pub next: Joiner,

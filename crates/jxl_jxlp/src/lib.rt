@@ -1,5 +1,7 @@
 // One step at a `jxlp` box behind its header, after the Rust's container/parse.rs, and the refusal of a box behind its header. The input
 // is lent whole, and the payload starts `at` bytes on.
+#![tactic(auto)]
+
 ghost use Rattle.std.specs.Prelude.{◌≡◌, false, drop};
 ghost use Rattle.jxl_impossible.specs.Impossible.{over_index};
 ghost use Rattle.jxl_grammar.specs.Naming.{numbered};

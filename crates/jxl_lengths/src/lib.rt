@@ -1,4 +1,6 @@
 // How many bytes a line of the listing has.
+#![tactic(auto)]
+
 ghost use Rattle.std.specs.Prelude.{◌≡◌, ◌≤◌, length};
 ghost use Rattle.jxl_lines.specs.Digits.{decimal};
 ghost use Rattle.jxl_lines.specs.Lines.{text};

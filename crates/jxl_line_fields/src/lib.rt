@@ -1,4 +1,6 @@
 // The fields of a line, each put into a lent buffer at a place if it fits there.
+#![tactic(auto)]
+
 ghost use Rattle.std.specs.Prelude.{◌≡◌, [], ◌∷◌, ◌+◌, ◌/◌, ◌%◌, ◌≤◌, length};
 ghost use Rattle.jxl_lines.specs.Digits as Digits;
 ghost use Rattle.jxl_lines.specs.Digits.{decimal, hex8};
@@ -9,7 +11,7 @@ ghost use Rattle.jxl_line_fields.specs.Fields.{HasRoom, PutIfRoom};
 pub use jxl_lines::Put;
 
 // A part of a table of words: its bytes from the first place up to the second.
-#[derive(Drop)]
+#[derive(Clone, Copy)]
 pub struct Part(pub usize, pub usize);
 
 // Whether `n` bytes fit at `at` into a buffer of `len`.

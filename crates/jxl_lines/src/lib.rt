@@ -1,4 +1,6 @@
 // The lines of the listing, as values. Their bytes stand in specs/Lines.antt; theorems on them in specs/Theorems.antt.
+#![tactic(auto)]
+
 ghost use Rattle.std.specs.Prelude.{◌≡◌};
 ghost use Rattle.jxl_refusals.specs.Refusals.{why};
 ghost use Rattle.jxl_lines.specs.Lines.{printed};
@@ -8,7 +10,7 @@ use jxl_refusals::BoxRefusal;
 
 // Why a listing ends, or a turn of one, as it is printed: more is wanted, which only a turn says; a refusal by its number in document 01; the
 // limit of a file; its end, with nothing missing or with something; or that the parser had been ended before.
-#[derive(Drop)]
+#[derive(Clone, Copy)]
 pub enum StopWord {
     Want,
     Refused1,
@@ -47,14 +49,14 @@ impl StopWord {
 }
 
 // One record of the listing: a joined event with its place in the file, or the stop with the bytes consumed.
-#[derive(Drop)]
+#[derive(Clone, Copy)]
 pub enum Line {
     Shown(ParseEvent),
     Stopped { stop: StopWord, consumed: usize },
 }
 
 // Where the next line goes; or how many bytes the line that did not fit has.
-#[derive(Drop)]
+#[derive(Clone, Copy)]
 pub enum Put {
     Written(usize),
     NoRoom(usize),

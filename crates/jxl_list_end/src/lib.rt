@@ -1,4 +1,6 @@
 // What a listing has to tell behind the last byte, from the end call: the event still owed, and then the stop.
+#![tactic(auto)]
+
 ghost use Rattle.std.specs.Prelude.{◌≡◌};
 ghost use Rattle.jxl_endings.specs.End.{end_of};
 ghost use Rattle.jxl_list_rules.specs.Listed.{next_end};

@@ -1,4 +1,6 @@
 // The work of one turn of a program that lists a stream: the short way where the input only makes the part held longer, else the long one.
+#![tactic(auto)]
+
 ghost use Rattle.std.specs.Prelude.{◌≡◌, length};
 ghost use Rattle.jxl_list_rules.specs.Turned.{Told, turn_of};
 

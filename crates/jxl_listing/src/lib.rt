@@ -1,4 +1,6 @@
 // The lines of the listing: the bytes of one line, put into a lent buffer. The format stands in specs/Lines.antt of jxl_lines.
+#![tactic(auto)]
+
 ghost use Rattle.std.specs.Prelude.{◌≡◌, [], ◌∷◌, ◌+◌, ◌≤◌, length};
 ghost use Rattle.jxl_line_fields.specs.Fields.{PutIfRoom};
 ghost use Rattle.jxl_line_fields.specs.Parts.{IsPart, part_of};

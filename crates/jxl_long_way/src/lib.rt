@@ -1,4 +1,6 @@
 // The long way of a turn: step by step, each event added to the joiner, each line that the joiner hands back put into the buffer.
+#![tactic(auto)]
+
 ghost use Rattle.std.specs.Prelude.{◌≡◌, ◌≤◌, length};
 ghost use Rattle.jxl_lines.specs.Putting.{leaves, put_of};
 ghost use Rattle.jxl_list_rules.specs.Listed.{lines_of};

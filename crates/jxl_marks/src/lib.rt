@@ -1,5 +1,7 @@
 // The marks that counting sets: how much of the input is there, the newest header, and the place that a refusal names. Numbers alone; the
 // record and the answer that carry them are jxl_counts.
+#![tactic(auto)]
+
 ghost use Rattle.std.specs.Prelude.{◌≡◌, ◌-◌, min, ltb};
 ghost use Rattle.jxl_headers.specs.Bytes.{if, and};
 ghost use Rattle.jxl_totals.specs.Naming.{is_closed};

@@ -1,4 +1,6 @@
 // Moving over bits at a position of a lent slice: the position goes in and comes back by value. The rules are in `jxl_bit_rules`.
+#![tactic(auto)]
+
 ghost use Rattle.std.specs.Prelude.{◌≡◌};
 ghost use Rattle.jxl_bit_rules.specs.Readers as F;
 ghost use Rattle.jxl_bit_rules.specs.Inside.{Ready};

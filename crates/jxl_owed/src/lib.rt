@@ -1,5 +1,7 @@
 // What the end of a file comes to, by the record of the rules on boxes and the bytes left unread: something is missing, or an event is
 // still owed, or nothing is. What is missing goes first.
+#![tactic(auto)]
+
 ghost use Rattle.std.specs.Prelude.{◌≡◌, [], eqb};
 ghost use Rattle.jxl_headers.specs.Bytes.{if};
 ghost use Rattle.jxl_grammar.specs.End as Spec;
@@ -10,7 +12,7 @@ use jxl_headers::BytesLeft;
 use jxl_record::{BitstreamKind, BoxParser, DetectState, JxlpIndexState};
 
 // What an end comes to.
-#[derive(Drop)]
+#[derive(Clone, Copy)]
 pub enum Close {
     Missing,
     Owes(ParseEvent),

@@ -1,4 +1,6 @@
 // Payload parts that lie end to end: whether two events are such parts, and how far the joined one reaches.
+#![tactic(auto)]
+
 ghost use Rattle.std.specs.Prelude.{◌≡◌, ◌+◌, ◌-◌, eqb};
 ghost use Rattle.jxl_parts.specs.Joined as Spec;
 

@@ -1,5 +1,7 @@
 // One step at the index that a `jxlp` payload starts with, after the Rust's container/parse.rs, and whether the 4 bytes that a payload
 // starts with are there. The input is lent whole, and the payload starts `at` bytes on.
+#![tactic(auto)]
+
 ghost use Rattle.std.specs.Prelude.{◌≡◌, ◌-◌, ltb, length, drop};
 ghost use Rattle.jxl_grammar.specs.Naming.{numbered};
 ghost use Rattle.jxl_grammar.specs.Step as Spec;

@@ -1,4 +1,6 @@
 // What a step answers, after the Rust's container/parse.rs; a refusal; and one step inside a side box.
+#![tactic(auto)]
+
 ghost use Rattle.std.specs.Prelude.{◌≡◌, min};
 ghost use Rattle.jxl_events.specs.declared.ParseEvent.TheVariants as Event;
 ghost use Rattle.jxl_record.specs.Record.{at};
@@ -13,7 +15,7 @@ use jxl_record::{BoxParser, DetectState, JxlpIndexState};
 use jxl_refusals::BoxRefusal;
 
 // A step's answer. The next record and the bytes consumed come first in every case, so that the compiler copies no padding.
-#[derive(Drop)]
+#[derive(Clone, Copy)]
 pub enum BoxResult {
     Shown {
         next: BoxParser,

@@ -1,4 +1,6 @@
 // How many events a queue must hold, and the sum that stops at the largest number of 64 bits.
+#![tactic(auto)]
+
 ghost use Rattle.std.specs.Prelude.{◌≡◌};
 ghost use Rattle.jxl_queue.specs.Queue.{saturated, most_events};
 

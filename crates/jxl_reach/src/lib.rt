@@ -1,9 +1,11 @@
 // How far a payload reaches.
+#![tactic(auto)]
+
 ghost use Rattle.std.specs.Prelude.{◌≡◌};
 ghost use Rattle.jxl_reach.specs.Reach.{less, to_end, under};
 
 // To the end of the file, or so many bytes more.
-#[derive(Drop)]
+#[derive(Clone, Copy)]
 pub enum BytesLeft {
     ToEnd,
     Bytes(u64),

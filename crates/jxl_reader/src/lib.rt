@@ -1,4 +1,6 @@
 // The fields through a struct that holds the slice and the bit position. Each call is the call by position, thinly.
+#![tactic(auto)]
+
 ghost use Rattle.std.specs.Prelude.{◌≡◌};
 ghost use Rattle.jxl_bit_rules.specs.Readers as R;
 ghost use Rattle.jxl_field_rules.specs.Fields as F;
@@ -11,7 +13,7 @@ use jxl_fields::U32Specifier;
 use jxl_results::{ResultBool, ResultU32, ResultUnit};
 
 // A slice, and a bit position in it.
-#[derive(Drop)]
+#[derive(Clone, Copy)]
 pub struct Bitstream<'a> {
     bytes: &'a [u8],
     at: usize,

@@ -1,4 +1,6 @@
 // The container parser's record, after the Rust's container.rs: a value that goes in and comes back.
+#![tactic(auto)]
+
 ghost use Rattle.std.specs.Prelude.{◌≡◌};
 ghost use Rattle.jxl_record.specs.Record.{at, fresh, kind_of};
 
@@ -6,7 +8,7 @@ use jxl_headers::BytesLeft;
 use jxl_refusals::BoxRefusal;
 
 // Structure of the decoded bitstream.
-#[derive(Drop)]
+#[derive(Clone, Copy)]
 pub enum BitstreamKind {
     // Not yet told.
     Unknown,
@@ -19,7 +21,7 @@ pub enum BitstreamKind {
 }
 
 // The `jxlc` and `jxlp` boxes so far: none, one `jxlc`, a row of `jxlp` with the index of the newest, a whole row.
-#[derive(Drop)]
+#[derive(Clone, Copy)]
 pub enum JxlpIndexState {
     Initial,
     SingleJxlc,
@@ -28,7 +30,7 @@ pub enum JxlpIndexState {
 }
 
 // What the parser waits for, or is inside of.
-#[derive(Drop)]
+#[derive(Clone, Copy)]
 pub enum DetectState {
     WaitingSignature,
     WaitingBoxHeader,
@@ -53,7 +55,7 @@ pub enum DetectState {
 }
 
 // The parser's whole state.
-#[derive(Drop)]
+#[derive(Clone, Copy)]
 pub struct BoxParser {
     pub state: DetectState,
     pub jxlp: JxlpIndexState,

@@ -1,4 +1,6 @@
 // The text of a refusal, put into a lent buffer, for a fault log. The texts stand in specs/Text.antt of jxl_refusal_words.
+#![tactic(auto)]
+
 ghost use Rattle.std.specs.Prelude.{◌≡◌, ◌++◌, ◌+◌, ◌≤◌, length};
 ghost use Rattle.jxl_lines.specs.Digits.{decimal};
 ghost use Rattle.jxl_lines.specs.Pasting.{Pasted};

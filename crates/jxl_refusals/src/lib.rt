@@ -1,9 +1,11 @@
 // Why a parser takes no more: which rule of the container broke; or that it was ended.
+#![tactic(auto)]
+
 ghost use Rattle.std.specs.Prelude.{◌≡◌};
 ghost use Rattle.jxl_refusals.specs.Refusals.{number_of, why};
 
 // The rule that broke. The number of each, and the values that it tells, are `why` of specs/Refusals.antt.
-#[derive(Drop)]
+#[derive(Clone, Copy)]
 pub enum BoxRefusal {
     // A box size of 2 to 7.
     ShortSize,

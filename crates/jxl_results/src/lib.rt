@@ -1,42 +1,44 @@
 // Answers of a field without the position, and the position beside them. The Rust has `BitstreamResult<T>`; here each `T` has its enum.
+#![tactic(auto)]
+
 ghost use Rattle.std.specs.Prelude.{◌≡◌};
 ghost use Rattle.jxl_bit_rules.specs.Told.{told_u32, told_bool, told_moved};
 ghost use Rattle.jxl_results.specs.Results.{u32_at, bool_at, unit_at};
 
 use jxl_bit_rules::{FieldRefusal, Moved, ReadBool, ReadU32};
 
-#[derive(Drop)]
+#[derive(Clone, Copy)]
 pub enum ResultU32 {
     Value(u32),
     Refused(FieldRefusal),
 }
 
-#[derive(Drop)]
+#[derive(Clone, Copy)]
 pub enum ResultBool {
     Value(bool),
     Refused(FieldRefusal),
 }
 
-#[derive(Drop)]
+#[derive(Clone, Copy)]
 pub enum ResultUnit {
     Done,
     Refused(FieldRefusal),
 }
 
 // A result, and the position after the call.
-#[derive(Drop)]
+#[derive(Clone, Copy)]
 pub struct SplitU32 {
     pub at: usize,
     pub result: ResultU32,
 }
 
-#[derive(Drop)]
+#[derive(Clone, Copy)]
 pub struct SplitBool {
     pub at: usize,
     pub result: ResultBool,
 }
 
-#[derive(Drop)]
+#[derive(Clone, Copy)]
 pub struct SplitUnit {
     pub at: usize,
     pub result: ResultUnit,

@@ -1,4 +1,6 @@
 // The short way through a turn whose input lies inside the codestream part held.
+#![tactic(auto)]
+
 ghost use Rattle.std.specs.Prelude.{◌≡◌, ◌+◌, ◌^◌, ◌<◌, ◌≤◌, eqb, leb};
 ghost use Rattle.jxl_totals.specs.Step.{limit};
 ghost use Rattle.jxl_list_rules.specs.Way.{way_behind, way_of};

@@ -1,4 +1,6 @@
 // The signatures of JPEG XL files, and the function that tells which of them an input starts with.
+#![tactic(auto)]
+
 ghost use Rattle.std.specs.Prelude.{◌≡◌};
 ghost use Rattle.jxl_signatures.specs.Bytes.{starts};
 ghost use Rattle.jxl_signatures.specs.Signature.{signature_of};
@@ -12,7 +14,7 @@ pub const CONTAINER_SIG: [u8; 12] = [
 ];
 
 // What the first bytes of an input are.
-#[derive(Drop)]
+#[derive(Clone, Copy)]
 pub enum Signature {
     Bare,
     Container,

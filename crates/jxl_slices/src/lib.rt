@@ -1,4 +1,6 @@
 // A part of lent bytes, which every crate here takes in the same way.
+#![tactic(auto)]
+
 ghost use Rattle.std.specs.Prelude.{◌≡◌};
 ghost use Rattle.jxl_slices.specs.Part.{between};
 

@@ -1,5 +1,7 @@
 // Lists a stream: reads it in blocks of at most 64 KiB, writes the lines of each turn at once, joined across reads, and makes the end call
 // where nothing more can be read.
+#![tactic(auto)]
+
 use jxl_container::ContainerParser;
 use jxl_joiner::{Joiner, MaybeEvent};
 use jxl_lines::{Line, StopWord};
@@ -10,7 +12,7 @@ use jxl_listing::Put;
 use jxl_slices::part;
 
 // What comes next: a turn on the bytes in the buffer, a read, the end of the listing, or nothing.
-#[derive(Drop)]
+#[derive(Clone, Copy)]
 enum Next {
     Turn,
     Read,
@@ -19,14 +21,14 @@ enum Next {
 }
 
 // A record to go on with, or none.
-#[derive(Drop)]
+#[derive(Clone, Copy)]
 enum MaybeParser {
     None,
     Some(ContainerParser),
 }
 
 // What a read leaves: the bytes in the buffer, and what comes next.
-#[derive(Drop)]
+#[derive(Clone, Copy)]
 struct Got {
     upto: usize,
     next: Next,

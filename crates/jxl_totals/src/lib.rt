@@ -1,5 +1,7 @@
 // The record that a user holds and feeds: the rules' own, with the bytes consumed so far and the first byte of the newest header.
 // What a step of it tells, and the theorems on it, are in specs/.
+#![tactic(auto)]
+
 ghost use Rattle.std.specs.Prelude.{◌≡◌};
 ghost use Rattle.jxl_totals.specs.Step.{fresh, kind_of};
 
@@ -8,7 +10,7 @@ use jxl_refusals::BoxRefusal;
 
 // The parser's whole record: the rules' own, the bytes consumed, and the first byte of the newest header (0 before the first one). The
 // rules on boxes know nothing of the two counts.
-#[derive(Drop)]
+#[derive(Clone, Copy)]
 pub struct ContainerParser {
     pub boxes: BoxParser,
     pub total: u64,
@@ -17,7 +19,7 @@ pub struct ContainerParser {
 
 // A refusal: the rule that broke, the bytes consumed then, and the place that it names: the first byte of the header that it
 // concerns, or, with none, the bytes consumed.
-#[derive(Drop)]
+#[derive(Clone, Copy)]
 pub struct FileRefusal {
     pub rule: BoxRefusal,
     pub total: u64,

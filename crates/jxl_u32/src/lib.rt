@@ -1,4 +1,6 @@
 // `U32`. The rules are in `jxl_field_rules`.
+#![tactic(auto)]
+
 ghost use Rattle.std.specs.Prelude.{◌≡◌, false};
 ghost use Rattle.jxl_bit_rules.specs.Inside.{Ready};
 ghost use Rattle.jxl_bit_rules.specs.Told.{told_u32};

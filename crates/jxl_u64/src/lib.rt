@@ -1,4 +1,6 @@
 // `U64`. The rules are in `jxl_field_rules`.
+#![tactic(auto)]
+
 ghost use Rattle.std.specs.Prelude.{◌≡◌, ◌^◌, ◌<◌, drop};
 ghost use Rattle.jxl_bit_rules.specs.Inside.{Ready};
 ghost use Rattle.jxl_field_rules.specs.Fields as F;

@@ -1,4 +1,6 @@
 // `UnpackSigned`, as in the Rust's lib.rs.
+#![tactic(auto)]
+
 ghost use Rattle.std.specs.Prelude.{◌≡◌};
 ghost use Rattle.jxl_unpack.specs.UnpackSigned.{unpacked};
 

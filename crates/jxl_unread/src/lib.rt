@@ -1,4 +1,6 @@
 // Keeps the bytes that a turn left unread: they move to the front of the buffer.
+#![tactic(auto)]
+
 ghost use Rattle.std.specs.Prelude.{◌≡◌, min, length};
 ghost use Rattle.jxl_lines.specs.Pasting.{pasted};
 ghost use Rattle.jxl_unread.specs.Kept.{kept};

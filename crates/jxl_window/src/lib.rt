@@ -1,4 +1,6 @@
 // The bytes that a reading of bits looks at. What they are as a number is in `jxl_bit_rules`.
+#![tactic(auto)]
+
 ghost use Rattle.std.specs.Prelude.{◌≡◌, ◌+◌, ◌*◌, ◌/◌, ◌%◌, ◌^◌, get_or, drop};
 ghost use Rattle.jxl_bit_rules.specs.Bits.{number};
 

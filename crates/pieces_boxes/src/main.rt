@@ -1,6 +1,8 @@
 // Runs pieces of the format: each line of the list is a record and a file in hex, and for a piece of the end one word more. The record is
 // given nothing, then the file; if it refuses, the file again and nothing. Prints a line for each: the answers, then the record's kind,
 // codestream boxes, total and newest header, and of a record that takes no more the text that says why and the place that it names.
+#![tactic(auto)]
+
 use jxl_totals::ContainerParser;
 
 mod ends;

@@ -1,10 +1,12 @@
 // Runs the calls on standard input and writes each with its answer: document 01's worked pieces of the fields, and what lies
 // outside the domain on which the Rust is compared.
+#![tactic(auto)]
+
 use libc::STDOUT_FILENO;
 use replay_text::{byte_at, line_end};
 
 // Where the line of the buffer starts and ends, and the position.
-#[derive(Drop)]
+#[derive(Clone, Copy)]
 struct Place {
     from: usize,
     to: usize,

@@ -1,10 +1,11 @@
 // Replays the stored answers on boxes: each file of the list is fed in the packets of each of its lines, and every event, count and refusal
 // is compared with the Rust's in the line, refusals 10 to 19 as 1. Behind each feeding the file is ended, and what that comes to is compared
 // with what the judge says in the file's line `e`. Prints the numbers of the first lines that differ, then the counts.
+#![tactic(auto)]
 
 // The lines passed, the length of the newest file, the place behind the token of its end, which stands behind the file, the feedings
 // compared, the answers in them and of their ends, and the feedings that differ.
-#[derive(Drop)]
+#[derive(Clone, Copy)]
 struct Tally {
     lines: u64,
     file_len: usize,

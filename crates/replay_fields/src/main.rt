@@ -1,4 +1,6 @@
 // Replays the stored list of the Rust's answers (standard input) on the proved fields, and says how many answers differ.
+#![tactic(auto)]
+
 ghost use Rattle.std.specs.Prelude.{◌≡◌, length};
 
 use libc::STDOUT_FILENO;
@@ -6,7 +8,7 @@ use replay_text::{byte_at, find, line_end};
 use std::num::wrapping_add_u64;
 
 // Where the line of the buffer starts and ends, the position, the line's number, and the counts so far.
-#[derive(Drop)]
+#[derive(Clone, Copy)]
 struct Tally {
     from: usize,
     to: usize,

@@ -1,8 +1,10 @@
 // Text for the programs that replay stored answers: lines and numbers in a slice of bytes. Nothing is asked of a caller.
+#![tactic(auto)]
+
 ghost use Rattle.std.specs.Prelude.{◌≤◌, ◌<◌, length};
 
 // A number, and the place after its last digit.
-#[derive(Drop)]
+#[derive(Clone, Copy)]
 pub struct Parsed {
     pub value: u64,
     pub next: usize,
@@ -50,7 +52,7 @@ pub fn digit(b: u8) -> u64
     if b < 103 { (b - 87) as u64 } else { 16 }
 }
 
-#[derive(Drop)]
+#[derive(Clone, Copy)]
 enum Grown {
     To(u64),
     Full,

@@ -1,9 +1,11 @@
 // Replays the Rust's stored answers of UnpackSigned: a line `32 HEX8 DEC` or `64 HEX16 DEC` for each. Prints the numbers of
 // the first lines that differ, then the counts.
+#![tactic(auto)]
+
 use jxl_slices::part;
 
 // The answers compared, and those that differ.
-#[derive(Drop)]
+#[derive(Clone, Copy)]
 struct Tally {
     answers: u64,
     differ: u64,

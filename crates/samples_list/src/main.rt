@@ -1,4 +1,5 @@
 // Lists each file that its arguments name, under its name: the samples, in the gate.
+#![tactic(auto)]
 
 // Lists argument `i`, and answers whether there is one.
 fn list_arg(i: usize) -> bool {
