@@ -40,6 +40,7 @@ fn starts_with(s: &[u8], prefix: &[u8]) -> bool
 }
 
 // Which signature `s` starts with.
+#[tactic(auto, unfolding(crate::specs::Signature::signature_of))]
 pub fn which_signature(s: &[u8]) -> Signature
     ensures { result ≡ signature_of s.now }
 {
