@@ -110,6 +110,7 @@ fn be64_at(s: &[u8], at: usize) -> u64
 }
 
 // A header whose size is 1: a 64-bit size behind the type.
+#[tactic(auto, unfolding(crate::specs::Header::extended))]
 fn parse_extended(s: &[u8]) -> HeaderParseResult
     requires { 8 ≤ length s.now }
     ensures { told_header result ≡ numbered (extended s.now) }
@@ -132,6 +133,7 @@ fn parse_extended(s: &[u8]) -> HeaderParseResult
 }
 
 // The header at the front of `s`.
+#[tactic(auto, unfolding(crate::specs::Header::header_of))]
 pub fn parse_header(s: &[u8]) -> HeaderParseResult
     ensures { told_header result ≡ numbered (header_of s.now) }
 {
