@@ -190,11 +190,13 @@ module _ (j : JxlpIndexState) (o : over_index j ≡ false) (t m a : ℕ) where
   side_sized n x s z h true e =
       let all : min n (length (x ∷ s)) ≡ n = omega (arith, leb-true n (length (x ∷ s)) e) in
       let over : n - n ≡ 0 = omega arith in
-      rw (aux, ne_eqb n 0 z, e, all, over) (m, omega arith, (o, tt), rw (add-zero a, closing (a + n) (drop n (x ∷ s))))
+      let part : aux_part j t (Bytes n) (length (x ∷ s)) ≡ shows (E.AuxBoxData t 0 n) (at (S.InAuxBox t (Bytes 0)) j) n = rw (ne_eqb n 0 z, all, over) in
+      rw (part, aux, ne_eqb n 0 z, e) (m, omega arith, (o, tt), rw (add-zero a, closing (a + n) (drop n (x ∷ s))))
   side_sized n x s z h false e =
       let full : min n (length (x ∷ s)) ≡ length (x ∷ s) = omega (arith, leb-false n (length (x ∷ s)) e) in
       let some : eqb (n - length (x ∷ s)) 0 ≡ false = ne_eqb (n - length (x ∷ s)) 0 (λ z. absurd (omega (arith, leb-false n (length (x ∷ s)) e, z))) in
-      rw (aux, ne_eqb n 0 z, e, full) (m, omega arith, (o, tt), rw (full, add-zero a, drop-length (x ∷ s), some, unless_missing (sofar j)))
+      let part : aux_part j t (Bytes n) (length (x ∷ s)) ≡ shows (E.AuxBoxData t 0 (length (x ∷ s))) (at (S.InAuxBox t (Bytes (n - length (x ∷ s)))) j) (length (x ∷ s)) = rw (ne_eqb n 0 z, full) in
+      rw (part, aux, ne_eqb n 0 z, e) (m, omega arith, (o, tt), rw (add-zero a, drop-length (x ∷ s), some, unless_missing (sofar j)))
 
   lists_side : (l : BytesLeft) (x : ℕ) (s : List ℕ) → length (x ∷ s) ≤ m → Lists a (x ∷ s) (aux (sofar j) t l a (x ∷ s) (boxes m)) (aux_part j t l (length (x ∷ s)))
   lists_side ToEnd x s h = (m, omega arith, (o, tt), rw (add-zero a, drop-length (x ∷ s)))
