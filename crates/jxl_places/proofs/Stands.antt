@@ -263,6 +263,18 @@ module _ (f : List ℕ) where
         go : (r : BoxRefusal) → HeaderRule r → header_of (drop a f) ≡ bad r → Tells a a (refuse r (at S.WaitingBoxHeader j) 0)
         go Rule.ShortSize short_size k = (i, k, omega arith)
         go Rule.ExtendedSize extended_size k = (i, k, omega arith)
+        go Rule.SecondJxlc r k = elim r [ ]
+        go Rule.JxlcAfterJxlp r k = elim r [ ]
+        go Rule.JxlpTooSmall r k = elim r [ ]
+        go Rule.JxlpAfterJxlc r k = elim r [ ]
+        go Rule.JxlpAfterLast r k = elim r [ ]
+        go (Rule.WrongIndex _ _) r k = elim r [ ]
+        go Rule.BrobTooSmall r k = elim r [ ]
+        go Rule.ImpossibleRecord r k = elim r [ ]
+        go Rule.ValidationFailed r k = elim r [ ]
+        go Rule.StreamLimit r k = elim r [ ]
+        go Rule.CutShort r k = elim r [ ]
+        go Rule.Closed r k = elim r [ ]
     tells_header i j (box t l n) e =
         let behind : drop n s ≡ drop (a + n) f = ap (drop n) there ∙ drop-drop n a f in
         tells_ahead a n a (box_step j t l (drop n s)) (tells_box (a + n) a n l refl j t (drop n s) (i, ap header_of (sym there) ∙ e) behind)
