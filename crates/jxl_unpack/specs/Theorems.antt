@@ -1,6 +1,6 @@
 -- What is proved of UnpackSigned besides the functions' promises: each statement is a type, which proofs/ proves
 -- under the same name in small letters.
-use Rattle.std.specs.Prelude.{◌≡◌, ℕ, suc, ◌/◌, ◌^◌, ◌<◌, ℤ, pos, ◌-ℤ◌}
+use Rattle.std.specs.Prelude.{◌≡◌, ℕ, ◌/◌, ◌^◌, ◌<◌, ℤ, pos, ◌-ℤ◌}
 use Rattle.std.specs.Int.Bits.{bit_and, bit_xor}
 use Rattle.std.specs.Int.{Width}
 use mir.Val as Machine
