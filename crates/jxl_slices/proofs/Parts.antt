@@ -1,9 +1,7 @@
 -- A part of a list: where it lies outside, and where it does not.
 use mathlib.Core.Path.{◌≡◌}
-use mathlib.Core.Bool.{true, false}
 use mathlib.Core.List.{List, []}
 use Prim.Native.Nat.{ℕ, ◌-◌, ◌<◌, ◌≤◌}
-use lib.Dec.{leb}
 use lib.ListN.{length, take, drop}
 use borrow.Author.Tests.{le-leb, lt-leb}
 use Rattle.jxl_slices.specs.Part.{between}
