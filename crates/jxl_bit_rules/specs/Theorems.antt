@@ -1,6 +1,6 @@
 -- What is proved of bits by position besides the functions' promises: each statement is a type, which proofs/ proves
 -- under the same name in small letters.
-use Rattle.std.specs.Prelude.{Bool, ◌≡◌, List, ℕ, suc, ◌+◌, ◌-◌, ◌*◌, ◌/◌, ◌%◌, ◌^◌, ◌≤◌, ◌<◌, length, drop}
+use Rattle.std.specs.Prelude.{Bool, ◌≡◌, List, ℕ, suc, ◌+◌, ◌-◌, ◌*◌, ◌/◌, ◌%◌, ◌^◌, ◌≤◌, length, drop}
 use Rattle.jxl_bit_rules.specs.Answer.{Answer, Field, gives, ◌>>=◌, done}
 use Rattle.jxl_bit_rules.specs.Bits.{Bytes, number, bits, bit, end, start}
 use Rattle.jxl_bit_rules.specs.Readers.{begin, read, peek, consume, skip, pad, bool}
