@@ -8,6 +8,7 @@ ghost use Rattle.jxl_bit_rules.specs.Told.{told_moved};
 use jxl_bit_rules::{FieldRefusal, Moved};
 
 // What comes before every reading: 8, 7, then the position moved to the end.
+#[tactic(auto, unfolding(jxl_bit_rules::specs::Readers::begin))]
 pub fn begin(s: &[u8], at: usize, wide: bool) -> Moved
     ensures { told_moved result ≡ F.begin wide s.now at }
 {
