@@ -22,6 +22,7 @@ fn step(s: &[u8], p: usize, n: usize, stop: usize) -> Moved
 }
 
 // Moves on by `n`, up to 32; where fewer bits are left it stays.
+#[tactic(auto, using(jxl_bit_rules::proofs::Parts::ready), unfolding(jxl_bit_rules::specs::Readers::consume))]
 pub fn consume_bits(s: &[u8], at: usize, n: usize) -> Moved
     ensures { told_moved result ≡ F.consume n s.now at }
 {
@@ -32,6 +33,7 @@ pub fn consume_bits(s: &[u8], at: usize, n: usize) -> Moved
 }
 
 // Moves on by `n`; where fewer bits are left it goes to the end.
+#[tactic(auto, using(jxl_bit_rules::proofs::Parts::ready), unfolding(jxl_bit_rules::specs::Readers::skip))]
 pub fn skip_bits(s: &[u8], at: usize, n: usize) -> Moved
     ensures { told_moved result ≡ F.skip n s.now at }
 {

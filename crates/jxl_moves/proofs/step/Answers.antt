@@ -1,0 +1,14 @@
+-- The test says whether the bits are there.
+use Rattle.std.proofs.Common.{◌+◌, arith}
+use borrow.Author.Tests.{le-leb, lt-leb}
+use Rattle.jxl_bit_rules.specs.Bits.{end}
+use Rattle.jxl_bit_rules.specs.Readers.{move}
+use Rattle.jxl_moves.proofs.step.Goals as goal
+
+pub returns-then-n-s : goal.returns-then-n-s
+unfolding move
+returns-then-n-s c = rw (le-leb (c.args.p + c.args.n) (end c.args.s.now) (omega arith))
+
+pub returns-else-n-s : goal.returns-else-n-s
+unfolding move
+returns-else-n-s c = rw (lt-leb (c.args.p + c.args.n) (end c.args.s.now) (omega arith))
