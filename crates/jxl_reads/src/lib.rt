@@ -20,6 +20,7 @@ fn look(s: &[u8], at: usize, n: usize) -> u32
 }
 
 // The next `n` bits, up to 32, with missing bits as 0. Nothing is consumed.
+#[tactic(auto, using(jxl_bit_rules::proofs::Parts::ready, jxl_bit_rules::proofs::Parts::begun), unfolding(jxl_bit_rules::specs::Readers::peek))]
 pub fn peek_bits(s: &[u8], at: usize, n: usize) -> ReadU32
     ensures { told_u32 result ≡ F.peek n s.now at }
 {
@@ -30,6 +31,7 @@ pub fn peek_bits(s: &[u8], at: usize, n: usize) -> ReadU32
 }
 
 // The next `n` bits, up to 32.
+#[tactic(auto, using(jxl_bit_rules::proofs::Parts::ready, jxl_bit_rules::proofs::Parts::begun), unfolding(jxl_bit_rules::specs::Readers::read, jxl_bit_rules::specs::Readers::part))]
 pub fn read_bits(s: &[u8], at: usize, n: usize) -> ReadU32
     ensures { told_u32 result ≡ F.read n s.now at }
 {
@@ -46,6 +48,7 @@ pub fn read_bits(s: &[u8], at: usize, n: usize) -> ReadU32
 }
 
 // `Bool`: 1 bit.
+#[tactic(auto, unfolding(jxl_bit_rules::specs::Readers::bool))]
 pub fn read_bool(s: &[u8], at: usize) -> ReadBool
     ensures { told_bool result ≡ F.bool s.now at }
 {
