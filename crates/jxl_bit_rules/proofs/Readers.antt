@@ -79,3 +79,7 @@ unfolding read
 read_part n s at r =
     let here : start s at ≡ at = min-eq_left r.within in
     rw (begins n s at r.short r.narrow, here)
+
+-- so what is answered there as a read is, is answered as the part
+pub as_part : {a : Answer ℕ} (n : ℕ) (s : List ℕ) (at : ℕ) → length s ≤ 2 ^ 61 - 1 → at ≤ end s → n ≤ 32 → a ≡ read n s at → a ≡ part n s at
+as_part n s at short within narrow e = e ∙ read_part n s at (record { short = short; within = within; narrow = narrow })

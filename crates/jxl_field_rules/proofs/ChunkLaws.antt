@@ -82,10 +82,10 @@ three P a b c (suc (suc (suc k))) h = absurd (omega arith)
 pub by_chunks : (k : ℕ) → 2 < k → (s : List ℕ) (at : ℕ) → u64_by k s at ≡ (part 12 >>= λ x. chunks places x) s at
 by_chunks k h s at = rw (ne_eqb k 0 (λ e. omega arith), ne_eqb k 1 (λ e. omega arith), ne_eqb k 2 (λ e. omega arith))
 
-abbrev short_widths : List ℕ
+abbrev pub short_widths : List ℕ
 short_widths = 0 ∷ 4 ∷ 8 ∷ []
 
-abbrev short_offsets : List ℕ
+abbrev pub short_offsets : List ℕ
 short_offsets = 0 ∷ 1 ∷ 17 ∷ []
 
 -- the others, as the code computes them
