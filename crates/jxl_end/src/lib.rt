@@ -106,6 +106,7 @@ fn end_in(state: DetectState, p: ContainerParser, unread: &[u8]) -> EndResult
 }
 
 // The end of the file, with the bytes of it that were fed and are unread.
+#[tactic(auto, unfolding(jxl_endings::specs::End::end_of))]
 pub fn end(parser: ContainerParser, unread: &[u8]) -> EndResult
     ensures { told_end result ≡ Spec.numbered_end (Spec.end_of parser unread.now) }
 {
