@@ -10,6 +10,7 @@ use jxl_lines::{Line, StopWord};
 use jxl_record::BitstreamKind;
 
 // How many decimal digits `n` has.
+#[tactic(auto, using(jxl_lines::proofs::Numbers::decimal_small, jxl_lines::proofs::Numbers::decimal_longer, jxl_lines::proofs::Numbers::decimal_most))]
 pub fn digits(n: usize) -> usize
     ensures value { result ≡ length (decimal n) }
     ensures upper_bound { result ≤ 20 }
@@ -24,6 +25,7 @@ pub fn digits(n: usize) -> usize
 }
 
 // The bytes of the line, counted and not written.
+#[tactic(auto, using(jxl_lines::proofs::Sizes::start_size, jxl_lines::proofs::Sizes::data_size, jxl_lines::proofs::Sizes::end_size))]
 pub fn line_length(line: Line) -> usize
     ensures { result ≡ length (text line) }
 {
