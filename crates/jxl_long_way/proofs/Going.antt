@@ -12,7 +12,6 @@ use Rattle.jxl_totals.specs.declared.ContainerParser.{ContainerParser}
 use Rattle.jxl_totals.specs.declared.FileRefusal.{FileRefusal}
 use Rattle.jxl_joiner.specs.Joiner.{adding, handed}
 use Rattle.jxl_joiner.specs.declared.Added.{Added}
-use Rattle.jxl_joiner.specs.declared.MaybeEvent.{MaybeEvent}
 use Rattle.jxl_joiner.specs.declared.Joiner.{Joiner}
 use Rattle.jxl_lines.specs.Lines.{printed}
 use Rattle.jxl_lines.specs.Pasting.{pasted}
@@ -24,7 +23,6 @@ use Rattle.jxl_list_rules.specs.Listed.{lines_of}
 use Rattle.jxl_list_rules.specs.Turned as Spec
 use Rattle.jxl_list_rules.specs.Turned.{Turned, over, behind, line_of, held_then, turn_from, turn_of}
 use Rattle.jxl_list_rules.specs.declared.TurnEnd.{TurnEnd}
-use Rattle.jxl_list_rules.specs.declared.TurnEnd.TheVariants as TurnEnd
 use Rattle.jxl_list_rules.specs.declared.AfterTurn.{AfterTurn}
 use Rattle.jxl_list_rules.proofs.Text.{shown_fits}
 use Rattle.jxl_list_rules.proofs.Turning.{turn_shown, turn_full, turn_wants, turn_refuses, behind_behind}
