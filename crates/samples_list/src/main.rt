@@ -29,7 +29,7 @@ fn list_arg(rt: &(impl Env + Files + Eprint), i: usize) -> bool {
     match str::from_utf8(&path[..length]) {
         Ok(name) => list_file(rt, name),
         Err(error) => {
-            let _ = eprintln!(rt; "samples-list: a name that is no text: {error}");
+            let _ = eprintln!(rt; "samples_list: a name that is no text: {error}");
         }
     }
     true
