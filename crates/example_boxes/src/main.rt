@@ -7,6 +7,9 @@ use jxl_container::{ContainerParser, EndResult, FileEvent, MaybeEvent, StepResul
 use jxl_lines::{Line, StopWord};
 use jxl_listing::Put;
 
+// The descriptor of standard output.
+const STDOUT: i32 = 1;
+
 #[derive(Clone, Copy)]
 struct Fed {
     parser: ContainerParser,
@@ -17,7 +20,7 @@ struct Fed {
 fn print_line(line: Line) {
     let mut out = [0u8; 56];
     if let Put::Written(n) = jxl_listing::put_line(&mut out, 0, line) {
-        io::write_all(libc::STDOUT_FILENO, &out[..n]);
+        io::write_all(STDOUT, &out[..n]);
     }
 }
 

@@ -7,7 +7,9 @@ ghost use Rattle.jxl_field_rules.specs.Fields as F;
 ghost use Rattle.example_fields.specs.InTurn.{InTurn, after_flag};
 
 use jxl_bitstream::{Bitstream, ReadU32, ResultBool, ResultU32, ResultUnit, U32Specifier};
-use libc::STDOUT_FILENO;
+
+// The descriptor of standard output.
+const STDOUT: i32 = 1;
 
 #[derive(Clone, Copy)]
 struct Fields {
@@ -68,7 +70,7 @@ fn tell(answer: ReadU32) {
     let mut out = [0u8; 64];
     let n = line(answer, &mut out);
     if n <= 64 {
-        io::write_all(STDOUT_FILENO, &out[..n]);
+        io::write_all(STDOUT, &out[..n]);
     }
 }
 

@@ -5,11 +5,14 @@ use jxl_container::{ContainerParser, MaybeEvent};
 use jxl_feed::Fed;
 use jxl_feed_end::Ended;
 
+// The descriptor of standard output.
+const STDOUT: i32 = 1;
+
 // Prints a word, and a number.
 fn say(word: &[u8], n: u64) {
-    io::write_all(libc::STDOUT_FILENO, word);
-    io::print_decimal(libc::STDOUT_FILENO, n);
-    io::write_all(libc::STDOUT_FILENO, b"\n");
+    io::write_all(STDOUT, word);
+    io::print_decimal(STDOUT, n);
+    io::write_all(STDOUT, b"\n");
 }
 
 // Prints what a step answers, and how many bytes it consumed.

@@ -1,4 +1,1 @@
-pub mod Lending
-pub mod Methods
 pub mod Unique
-pub mod Walk

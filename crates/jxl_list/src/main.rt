@@ -1,6 +1,6 @@
 // Prints the listing of the JPEG XL file on standard input.
 #![tactic(auto)]
 
-fn main() {
-    jxl_stream::list(libc::STDIN_FILENO);
+fn main(rt: HostRuntime) {
+    jxl_stream::list(&rt, &mut rt.stdin());
 }

@@ -10,6 +10,10 @@ use jxl_list_rules::AfterStep;
 use jxl_list_turn::TurnEnd;
 use jxl_listing::Put;
 use jxl_slices::part;
+use std::io::Read;
+
+// The descriptor of standard output.
+const STDOUT: i32 = 1;
 
 // What comes next: a turn on the bytes in the buffer, a read, the end of the listing, or nothing.
 #[derive(Clone, Copy)]
@@ -45,7 +49,7 @@ fn put(out: &mut [u8], at: usize, line: Line) -> usize {
 // Writes one line, and answers whether it could.
 fn write_line(line: Line, out: &mut [u8]) -> bool {
     let end = put(out, 0, line);
-    io::write_all(libc::STDOUT_FILENO, part(out, 0, end))
+    io::write_all(STDOUT, part(out, 0, end))
 }
 
 // Writes the line of the event that the joiner still holds, and answers whether it could.
@@ -94,41 +98,41 @@ fn write_end(parser: ContainerParser, joiner: Joiner, unread: &[u8], out: &mut [
     }
 }
 
-// Reads more behind the bytes not consumed, which move to the front. Nothing more to read is the end of the listing; a read that fails
-// is told, and the lines so far stand, with no stop.
-fn read_more(
+// Reads more behind the bytes not consumed, which move to the front: once, so that what a pipe gives is used as it comes. Nothing more to
+// read is the end of the listing; a read that fails is told, and the lines so far stand, with no stop.
+fn read_more<R: Read>(
+    rt: &impl Eprint,
+    reader: &mut R,
     joiner: Joiner,
-    fd: i32,
     buf: &mut [u8],
     from: usize,
     upto: usize,
     out: &mut [u8],
 ) -> Got {
     let unread = jxl_unread::keep(buf, from, upto);
-    let got = libc::read(fd, &mut buf[unread..]);
-    if got < 0 {
-        os::fail(b"jxl-list: read");
-        write_held(joiner, out);
-        return Got {
-            upto: unread,
-            next: Next::Nothing,
-        };
-    }
-    if got == 0 {
-        return Got {
+    match reader.read(&mut buf[unread..]) {
+        Err(error) => {
+            let _ = eprintln!(rt; "jxl-list: read: {error}");
+            write_held(joiner, out);
+            Got {
+                upto: unread,
+                next: Next::Nothing,
+            }
+        }
+        Ok(0) => Got {
             upto: unread,
             next: Next::End,
-        };
-    }
-    Got {
-        upto: std::num::wrapping_add_usize(unread, io::count(got, buf)),
-        next: Next::Turn,
+        },
+        Ok(got) => Got {
+            upto: std::num::wrapping_add_usize(unread, got),
+            next: Next::Turn,
+        },
     }
 }
 
 // What follows a turn, whose lines are written first. A write that fails ends the listing.
 fn follow(end: TurnEnd, written: usize, out: &mut [u8]) -> Next {
-    if !io::write_all(libc::STDOUT_FILENO, part(out, 0, written)) {
+    if !io::write_all(STDOUT, part(out, 0, written)) {
         return Next::Nothing;
     }
     match end {
@@ -140,10 +144,10 @@ fn follow(end: TurnEnd, written: usize, out: &mut [u8]) -> Next {
     }
 }
 
-// Lists what the descriptor gives, through the two buffers: the first byte not consumed lies at `from` in the buffer, and at the
+// Lists what the reader gives, through the two buffers: the first byte not consumed lies at `from` in the buffer, and at the
 // record's total in the file. A proved loop has to end, and nothing says that a stream does: the loop counts its turns down from a
 // number that no run uses up.
-fn list_through(fd: i32, buf: &mut [u8], out: &mut [u8]) {
+fn list_through<R: Read>(rt: &impl Eprint, reader: &mut R, buf: &mut [u8], out: &mut [u8]) {
     let mut parser = ContainerParser::new();
     let mut joiner = Joiner::new();
     let mut from = 0;
@@ -163,7 +167,7 @@ fn list_through(fd: i32, buf: &mut [u8], out: &mut [u8]) {
                 next = follow(end, after.written, out);
             }
             Next::Read => {
-                let got = read_more(joiner, fd, buf, from, upto, out);
+                let got = read_more(rt, reader, joiner, buf, from, upto, out);
                 from = 0;
                 upto = got.upto;
                 next = got.next;
@@ -177,9 +181,9 @@ fn list_through(fd: i32, buf: &mut [u8], out: &mut [u8]) {
     }
 }
 
-// Lists what the descriptor gives, to standard output.
-pub fn list(fd: i32) {
+// Lists what the reader gives, to standard output. A read that fails is told on standard error.
+pub fn list<R: Read>(rt: &impl Eprint, reader: &mut R) {
     let mut buf = io::large_buffer();
     let mut out = io::large_buffer();
-    list_through(fd, &mut buf, &mut out);
+    list_through(rt, reader, &mut buf, &mut out);
 }

@@ -2,8 +2,10 @@
 // outside the domain on which the Rust is compared.
 #![tactic(auto)]
 
-use libc::STDOUT_FILENO;
 use replay_text::{byte_at, line_end};
+
+// The descriptor of standard output.
+const STDOUT: i32 = 1;
 
 // Where the line of the buffer starts and ends, and the position.
 #[derive(Clone, Copy)]
@@ -15,9 +17,9 @@ struct Place {
 
 // Writes a line, and behind a call its answer.
 fn tell(line: &[u8], answer: &[u8]) {
-    io::write_all(STDOUT_FILENO, line);
-    io::write_all(STDOUT_FILENO, answer);
-    io::write_all(STDOUT_FILENO, b"\n");
+    io::write_all(STDOUT, line);
+    io::write_all(STDOUT, answer);
+    io::write_all(STDOUT, b"\n");
 }
 
 // Runs the call of one line, and answers the position after it.

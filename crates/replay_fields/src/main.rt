@@ -3,9 +3,11 @@
 
 ghost use Rattle.std.specs.Prelude.{◌≡◌, length};
 
-use libc::STDOUT_FILENO;
 use replay_text::{byte_at, find, line_end};
 use std::num::wrapping_add_u64;
+
+// The descriptor of standard output.
+const STDOUT: i32 = 1;
 
 // Where the line of the buffer starts and ends, the position, the line's number, and the counts so far.
 #[derive(Clone, Copy)]
@@ -31,9 +33,9 @@ fn agrees(line: &[u8], text: &[u8]) -> bool {
 
 fn tell(t: Tally) {
     if t.differ < 10 {
-        io::write_all(STDOUT_FILENO, b"line ");
-        io::print_decimal(STDOUT_FILENO, t.line);
-        io::write_all(STDOUT_FILENO, b" differs\n");
+        io::write_all(STDOUT, b"line ");
+        io::print_decimal(STDOUT, t.line);
+        io::write_all(STDOUT, b" differs\n");
     }
 }
 
@@ -133,8 +135,8 @@ fn main() {
     let mut buf = room();
     let n = io::read_full(0, &mut buf);
     let t = replay(&buf[..n]);
-    io::print_decimal(STDOUT_FILENO, t.compared);
-    io::write_all(STDOUT_FILENO, b" answers compared, ");
-    io::print_decimal(STDOUT_FILENO, t.differ);
-    io::write_all(STDOUT_FILENO, b" differ\n");
+    io::print_decimal(STDOUT, t.compared);
+    io::write_all(STDOUT, b" answers compared, ");
+    io::print_decimal(STDOUT, t.differ);
+    io::write_all(STDOUT, b" differ\n");
 }

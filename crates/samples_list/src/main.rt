@@ -1,32 +1,44 @@
 // Lists each file that its arguments name, under its name: the samples, in the gate.
 #![tactic(auto)]
 
+use std::fs::File;
+use std::rt::{Env, Files};
+use std::str;
+
+// The descriptor of standard output.
+const STDOUT: i32 = 1;
+
+// Lists the file of this name. One that cannot be opened is told.
+fn list_file(rt: &(impl Files + Eprint), name: &str) {
+    match File::open(rt, name) {
+        Ok(mut file) => jxl_stream::list(rt, &mut file),
+        Err(error) => {
+            let _ = eprintln!(rt; "{name}: {error}");
+        }
+    }
+}
+
 // Lists argument `i`, and answers whether there is one.
-fn list_arg(i: usize) -> bool {
+fn list_arg(rt: &(impl Env + Files + Eprint), i: usize) -> bool {
     let mut path = io::buffer();
-    let length = os::arg(i, &mut path);
-    if os::errno() != 0 {
+    let Ok(length) = rt.arg(i, &mut path) else {
         return false;
+    };
+    io::write_all(STDOUT, &path[..length]);
+    io::write_all(STDOUT, b":\n");
+    match str::from_utf8(&path[..length]) {
+        Ok(name) => list_file(rt, name),
+        Err(error) => {
+            let _ = eprintln!(rt; "samples_list: a name that is no text: {error}");
+        }
     }
-    io::write_all(libc::STDOUT_FILENO, &path[..length]);
-    io::write_all(libc::STDOUT_FILENO, b":\n");
-    let fd = os::open_read(&path[..length]);
-    if fd < 0 {
-        os::fail(&path[..length]);
-        return true;
-    }
-    jxl_stream::list(fd);
-    libc::close(fd);
     true
 }
 
-fn main() {
-    let count = os::arg_count();
-    let mut i = 1;
-    while i < count {
-        if !list_arg(i) {
+fn main(rt: HostRuntime) {
+    for i in 1..usize::MAX {
+        if !list_arg(&rt, i) {
             break;
         }
-        i += 1;
     }
 }
