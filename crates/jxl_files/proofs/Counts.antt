@@ -7,7 +7,7 @@ use native.Mathlib.Omega.{arith}
 use lib.ListN.{length, drop, length-append, length-drop}
 use Rattle.jxl_events.specs.Event.{shifted}
 use Rattle.jxl_events.specs.Total.{EndsAt}
-use Rattle.jxl_cuts.specs.Feeding as Any
+use Rattle.jxl_cuts.specs.Feeding as AnyMachine
 use Rattle.jxl_cuts.proofs.Steps.{consumes}
 use Rattle.jxl_cuts.proofs.Theorems.{unread}
 use Rattle.jxl_totals.specs.Step.{limit}
@@ -61,15 +61,15 @@ taken {p} {at} {s} l (ends {c = c} k) =
     let total = counts.0 ∙ ap (λ (n : ℕ). n + c) l in
     record { shown_right = tt; next_total = total; stop_total = counts.1 ∙ total; within = λ h. omega (arith, counts.2, l); there = omega (arith, (rw k at (lawful.kept p s)).0) }
 
-fed : (xs : List (List ℕ)) (w : Stop) (p : ContainerParser) (at : ℕ) (u : List ℕ) → p.total ≡ at → Stopped w at → Counted at (length u + length (bytes_of xs)) (Any.fed parser w p at u xs)
-unfolding Any.fed
+fed : (xs : List (List ℕ)) (w : Stop) (p : ContainerParser) (at : ℕ) (u : List ℕ) → p.total ≡ at → Stopped w at → Counted at (length u + length (bytes_of xs)) (AnyMachine.fed parser w p at u xs)
+unfolding AnyMachine.fed
 fed [] w p at u l o = record { shown_right = tt; next_total = l; stop_total = o; within = λ h. h; there = omega arith }
 fed (x ∷ xs) w p at u l o =
-    let r : Seen = Any.take parser p at (u ++ x) in
+    let r : Seen = AnyMachine.take parser p at (u ++ x) in
     let first = taken l (takes p at (u ++ x)).1 in
     let then = fed xs r.stop r.next r.consumed (drop (r.consumed - at) (u ++ x)) first.next_total first.stop_total in
     record {
-      shown_right = all_append r.shown (Any.fed parser r.stop r.next r.consumed (drop (r.consumed - at) (u ++ x)) xs).shown first.shown_right then.shown_right;
+      shown_right = all_append r.shown (AnyMachine.fed parser r.stop r.next r.consumed (drop (r.consumed - at) (u ++ x)) xs).shown first.shown_right then.shown_right;
       next_total = then.next_total;
       stop_total = then.stop_total;
       within = λ h. then.within (first.within h);

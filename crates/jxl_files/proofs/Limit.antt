@@ -9,7 +9,7 @@ use borrow.Author.Tests.{ltb-true, ltb-false}
 use Rattle.jxl_refusals.specs.declared.BoxRefusal.{BoxRefusal}
 use Rattle.jxl_refusals.specs.declared.BoxRefusal.TheVariants.{StreamLimit}
 use Rattle.jxl_events.specs.declared.FileEvent.{FileEvent}
-use Rattle.jxl_cuts.proofs.Theorems as Any
+use Rattle.jxl_cuts.proofs.Theorems as AnyMachine
 use Rattle.jxl_grammar.proofs.Laws as BoxLaws
 use Rattle.jxl_totals.specs.Step.{shows, limit, is_refused, room, visible, refused, step_of}
 use Rattle.jxl_totals.specs.Parser.{parser}
@@ -65,10 +65,10 @@ limit_beyond {p} {s = s} w o (ends {q = q} {c = c} {w = v} k) h l = go (refusing
 -- of packets what is so of all their bytes
 module _ (p : ContainerParser) (xs : List (List ℕ)) (r : is_refused p ≡ false) where
   all : feeding p (bytes_of xs ∷ []) ≡ takeAll p (bytes_of xs)
-  all = Any.whole_feed parser p p.total (bytes_of xs)
+  all = AnyMachine.whole_feed parser p p.total (bytes_of xs)
 
   stop_is : (takeAll p (bytes_of xs)).stop ≡ (feeding p xs).stop
-  stop_is = ap (λ (x : Seen). x.stop) (sym all) ∙ sym (Any.every_cut parser lawful p p.total xs (empty_feed p r)).stop_is
+  stop_is = ap (λ (x : Seen). x.stop) (sym all) ∙ sym (AnyMachine.every_cut parser lawful p p.total xs (empty_feed p r)).stop_is
 
 pub wants_within : WantsWithin
 wants_within p xs r w = wants_inside (takes p p.total (bytes_of xs)).1 (stop_is p xs r ∙ w)

@@ -28,7 +28,7 @@ use Rattle.jxl_totals.specs.Feeding.{Seen, want, events, Takes, more, waits, end
 use Rattle.jxl_totals.specs.Feeding as Feeding
 use Rattle.jxl_grammar.specs.End.{Close, missing, close_at, close_of}
 use Rattle.jxl_grammar.proofs.Listed.{refused_close}
-use Rattle.jxl_cuts.proofs.Theorems as Any
+use Rattle.jxl_cuts.proofs.Theorems as AnyMachine
 use Rattle.jxl_files.specs.Files.{limited_stop, limited_close, file}
 use Rattle.jxl_files.specs.Theorems.{rule_in, close_in, AsBefore}
 use Rattle.jxl_totals.specs.declared.ContainerParser.{ContainerParser}
@@ -178,14 +178,14 @@ whole s =
     let by = follows got.1 in
     let seen : by.0 ≡ Boxes.take Record.fresh 0 (take limit s) = sym (BoxTaking.take_is by.2) in
     let all : by.0.consumed - 0 ≡ by.0.consumed = omega arith in
-    let left : by.1 ≡ drop by.0.consumed (take limit s) = (Any.unread by.2).1 ∙ ap (λ (n : ℕ). drop n (take limit s)) all in
+    let left : by.1 ≡ drop by.0.consumed (take limit s) = (AnyMachine.unread by.2).1 ∙ ap (λ (n : ℕ). drop n (take limit s)) all in
     let lists : BoxTheorems.listing by.1 by.0 ≡ Grammar.file (take limit s) =
     ap (λ (u : List ℕ). BoxTheorems.listing u by.0) left
     ∙ ap (λ (r : Boxes.Seen). BoxTheorems.listing (drop r.consumed (take limit s)) r) (seen ∙ sym (BoxProofs.whole_feed Record.fresh 0 (take limit s)))
     ∙ BoxProofs.whole_file (take limit s) in
     let c = (Feeding.take fresh s).consumed in
     let every : c - 0 ≡ c = omega arith in
-    let unread : drop c s ≡ got.0 = sym ((Any.unread got.1).1 ∙ ap (λ (n : ℕ). drop n s) every) in
+    let unread : drop c s ≡ got.0 = sym ((AnyMachine.unread got.1).1 ∙ ap (λ (n : ℕ). drop n s) every) in
     let more = ltb limit (length s) in (
       by.3.events_are ∙ ap (λ (l : Grammar.Listing). l.events) lists,
       by.3.consumed_is ∙ ap (λ (l : Grammar.Listing). l.consumed) lists,

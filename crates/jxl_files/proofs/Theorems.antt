@@ -6,7 +6,7 @@ use native.Mathlib.Omega.{arith}
 use lib.ListN.{drop}
 use Rattle.jxl_cuts.specs.Theorems as AnyTheorems
 use Rattle.jxl_cuts.specs.Feeding as AnyFeeding
-use Rattle.jxl_cuts.proofs.Theorems as Any
+use Rattle.jxl_cuts.proofs.Theorems as AnyMachine
 use Rattle.jxl_cuts.proofs.Payloads as AnyPayloads
 use Rattle.jxl_refusals.specs.Refusals.{why, in_document01, merged}
 use Rattle.jxl_refusals.proofs.Merging.{merges_back}
@@ -27,13 +27,13 @@ use Rattle.jxl_files.proofs.Listed.{whole, as_before}
 
 -- a file fed whole
 pub whole_feed : (p : ContainerParser) (s : List ℕ) → feeding p (s ∷ []) ≡ take p s
-whole_feed p s = Any.whole_feed parser p p.total s
+whole_feed p s = AnyMachine.whole_feed parser p p.total s
 
 pub nothing_to_join : NothingToJoin
-nothing_to_join p s = Any.nothing_to_join parser lawful p p.total s
+nothing_to_join p s = AnyMachine.nothing_to_join parser lawful p p.total s
 
 pub every_cut : EveryCut
-every_cut p xs r = Any.every_cut parser lawful p p.total xs (empty_feed p r)
+every_cut p xs r = AnyMachine.every_cut parser lawful p p.total xs (empty_feed p r)
 
 -- by the rule that broke: the events as they come, and joined
 whole_events : (s : List ℕ) → listing_with (events (take fresh s)) s (take fresh s) ≡ file s
@@ -86,22 +86,22 @@ bytes_shown p front xs l =
     (AnyPayloads.bytes_shown parser lawful p front xs)
 
 pub most_unread : MostUnread
-most_unread p s = Any.most_unread parser lawful p p.total s
+most_unread p s = AnyMachine.most_unread parser lawful p p.total s
 
 pub most_unread_of_packets : MostUnreadOfPackets
-most_unread_of_packets p xs r e = Any.most_unread_of_packets parser lawful p p.total xs (empty_feed p r) e
+most_unread_of_packets p xs r e = AnyMachine.most_unread_of_packets parser lawful p p.total xs (empty_feed p r) e
 
 pub most_events_lem : MostEvents
-most_events_lem p x xs = omega (arith, Any.most_events_lem parser lawful p p.total x xs)
+most_events_lem p x xs = omega (arith, AnyMachine.most_events_lem parser lawful p p.total x xs)
 
 pub at_most_more : AtMostMore
-at_most_more p x xs = Any.at_most_more parser lawful p p.total x xs
+at_most_more p x xs = AnyMachine.at_most_more parser lawful p p.total x xs
 
 pub always_ends : AlwaysEnds
-always_ends p s turns h = Any.always_ends parser lawful p p.total s turns (omega arith)
+always_ends p s turns h = AnyMachine.always_ends parser lawful p p.total s turns (omega arith)
 
 pub ends_by_itself : EndsByItself
-ends_by_itself p s = Any.ends_by_itself parser lawful p p.total s
+ends_by_itself p s = AnyMachine.ends_by_itself parser lawful p p.total s
 
 pub one_way : OneWay
-one_way p s = Any.one_way parser lawful p p.total s
+one_way p s = AnyMachine.one_way parser lawful p p.total s

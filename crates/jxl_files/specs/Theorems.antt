@@ -1,7 +1,7 @@
 -- Every file, every cut, with totals, places and the limit: what is proved of feeding the parser that counts. Each statement is a type, which
 -- proofs/ proves under the same name in small letters.
 use Rattle.std.specs.Prelude.{◌≡◌, false, List, [], ◌∷◌, ◌++◌, ℕ, ◌+◌, ◌/◌, ◌<◌, ◌≤◌, length, drop}
-use Rattle.jxl_cuts.specs.Theorems as Any
+use Rattle.jxl_cuts.specs.Theorems as AnyMachine
 pub use Rattle.jxl_cuts.specs.Theorems.{All}
 use Rattle.jxl_refusals.specs.Refusals.{Naming, why, in_document01, merged}
 use Rattle.jxl_refusals.specs.declared.BoxRefusal.TheVariants.{StreamLimit}
@@ -94,7 +94,7 @@ EveryCutMergesBack =
 -- totals, bytes consumed, stop with total and place, and record
 abbrev pub EveryCut : Type 0
 EveryCut =
-    (p : ContainerParser) (xs : List (List ℕ)) → is_refused p ≡ false → Any.Agrees parser (feeding p xs) (feeding p (bytes_of xs ∷ []))
+    (p : ContainerParser) (xs : List (List ℕ)) → is_refused p ≡ false → AnyMachine.Agrees parser (feeding p xs) (feeding p (bytes_of xs ∷ []))
 
 -- with nothing to join: no two events of one feed lie end to end, from any record
 abbrev pub NothingToJoin : Type 0
@@ -104,7 +104,7 @@ NothingToJoin = (p : ContainerParser) (s : List ℕ) → joined (events (take p 
 abbrev pub BytesShown : Type 0
 BytesShown =
     (p : ContainerParser) (front : List ℕ) (xs : List (List ℕ)) → length front ≡ p.total
-    → All (Any.Right parser (front ++ bytes_of xs)) (feeding p xs).shown
+    → All (AnyMachine.Right parser (front ++ bytes_of xs)) (feeding p xs).shown
 
 -- most unread: unless refused, at most 15 bytes are left unread; of one feed from any record, of packets from any that is not refused
 abbrev pub MostUnread : Type 0

@@ -10,7 +10,7 @@ use Rattle.jxl_record.specs.declared.DetectState.TheVariants as S
 use Rattle.jxl_record.specs.declared.BoxParser.{BoxParser}
 use Rattle.jxl_events.specs.declared.ParseEvent.TheVariants as E
 use Rattle.jxl_cuts.specs.Lawful.{Lawful}
-use Rattle.jxl_cuts.specs.Feeding as Any
+use Rattle.jxl_cuts.specs.Feeding as AnyMachine
 use Rattle.jxl_grammar.specs.End.{close_at, close_of}
 use Rattle.jxl_grammar.specs.Parser.{parser_by, parser}
 use Rattle.jxl_grammar.specs.Grammar.{Listing}
@@ -18,7 +18,7 @@ use Rattle.jxl_grammar.specs.Naming.{told_as, listing_as, step_by, file_by}
 use Rattle.jxl_grammar.specs.Feeding.{events}
 
 -- what was seen of a parser that steps so, as a listing, and what an end with the bytes left unread comes to
-abbrev pub listing : {step : BoxParser → List ℕ → Told} → List ℕ → Any.Seen (parser_by step) → Listing
+abbrev pub listing : {step : BoxParser → List ℕ → Told} → List ℕ → AnyMachine.Seen (parser_by step) → Listing
 listing unread r =
     record { events = events r; consumed = r.consumed; stop = r.stop; close = close_at r.consumed (close_of r.next unread) }
 
@@ -27,7 +27,7 @@ listing unread r =
 abbrev pub ListsEveryFile : (BoxParser → List ℕ → Told) → Type 0
 ListsEveryFile step =
     (s : List ℕ) →
-    let r = Any.feeding (parser_by step) fresh 0 (s ∷ []) in
+    let r = AnyMachine.feeding (parser_by step) fresh 0 (s ∷ []) in
     listing_as why (listing {step = step} (drop r.consumed s) r) ≡ file_by why s
 
 -- versions to catch: a parser that only refuses, one that only says KIND invalid, one that only says WANT, and one that gives its first

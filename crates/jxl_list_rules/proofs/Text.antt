@@ -7,7 +7,7 @@ use native.Mathlib.Omega.{arith}
 use lib.ListN.{length, take, drop, length-drop}
 use lib.Seq.{take_all, drop-drop}
 use borrow.Author.Tests.{le-leb, lt-leb}
-use Rattle.jxl_cuts.specs.Feeding as Any
+use Rattle.jxl_cuts.specs.Feeding as AnyMachine
 use Rattle.jxl_refusals.specs.Refusals.{why}
 use Rattle.jxl_refusals.specs.declared.BoxRefusal.TheVariants as Rule
 use Rattle.jxl_base.proofs.Never.{never}
@@ -99,8 +99,8 @@ module _ (p : ContainerParser) (s : List ℕ) (k : ℕ) where
       → Feeding.take p (drop k s) ≡ followed (placed p.total (drop k s) e c ∷ []) (Feeding.take q (drop (k + c) s))
   taken_shown {e} {q} {c} st =
       take_is (more st (takes q (p.total + c) (drop c (drop k s))).1)
-      ∙ ap (λ (l : List ℕ). followed (placed p.total (drop k s) e c ∷ []) (Any.take parser q (p.total + c) l)) (drop-drop c k s)
-      ∙ ap (λ (n : ℕ). followed (placed p.total (drop k s) e c ∷ []) (Any.take parser q n (drop (k + c) s))) (sym (shown_counts p (drop k s) st).next_total)
+      ∙ ap (λ (l : List ℕ). followed (placed p.total (drop k s) e c ∷ []) (AnyMachine.take parser q (p.total + c) l)) (drop-drop c k s)
+      ∙ ap (λ (n : ℕ). followed (placed p.total (drop k s) e c ∷ []) (AnyMachine.take parser q n (drop (k + c) s))) (sym (shown_counts p (drop k s) st).next_total)
 
 -- an event that an end owes shows nothing, so its place in the file is where all is consumed
 owable_ends : {e : ParseEvent} → Owable e → EndsAt 0 e

@@ -20,7 +20,7 @@ use Rattle.jxl_headers.specs.Types.{jxlp, brob}
 use Rattle.jxl_events.specs.Event.{shifted}
 use Rattle.jxl_cuts.specs.Lawful.{Open}
 use Rattle.jxl_cuts.specs.Theorems.{Agrees}
-use Rattle.jxl_cuts.proofs.Theorems as Any
+use Rattle.jxl_cuts.proofs.Theorems as AnyMachine
 use Rattle.jxl_grammar.specs.Step as Rules
 use Rattle.jxl_grammar.specs.Laws as Boxes
 use Rattle.jxl_grammar.proofs.Laws as BoxLaws
@@ -156,7 +156,7 @@ whole s = taken (L.take limit s) {p = fresh} {at = 0} {s = s} refl refl refl (ta
 cut : (xs : List (List ℕ)) → Agrees parser (feeding fresh xs) (take fresh (bytes_of xs))
 cut xs =
     let waiting : Open parser fresh = empty_waits fresh (step_empty Record.fresh refl) in
-    subst (Agrees parser (feeding fresh xs)) (Any.whole_feed parser fresh 0 (bytes_of xs)) (Any.every_cut parser lawful fresh 0 xs waiting)
+    subst (Agrees parser (feeding fresh xs)) (AnyMachine.whole_feed parser fresh 0 (bytes_of xs)) (AnyMachine.every_cut parser lawful fresh 0 xs waiting)
 
 pub given_where : GivenWhere
 given_where xs = subst (All (Given (L.take limit (bytes_of xs)))) (sym (cut xs).events_are) (whole (bytes_of xs)).shown_given

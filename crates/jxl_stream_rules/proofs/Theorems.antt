@@ -6,7 +6,7 @@ use Prim.Native.Nat.{ℕ, ◌+◌, ◌-◌, ◌≤◌}
 use native.Mathlib.Omega.{arith}
 use lib.ListN.{length, drop}
 use lib.Seq.{drop-drop, drop-append-le}
-use Rattle.jxl_cuts.specs.Feeding as Any
+use Rattle.jxl_cuts.specs.Feeding as AnyMachine
 use Rattle.jxl_events.specs.Total.{EndsAt}
 use Rattle.jxl_events.specs.declared.FileEvent.{FileEvent}
 use Rattle.jxl_joiner.specs.Joiner.{handed, run}
@@ -58,8 +58,8 @@ drop_front : (a k : ℕ) (xs ys : List ℕ) → k ≤ length xs → drop a (drop
 drop_front a k xs ys h = ap (drop a) (sym (drop-append-le k xs ys h)) ∙ drop-drop a k (xs ++ ys)
 
 goes : (xs : List Read) (w : Stop) (p : ContainerParser) (h : MaybeEvent) (u : List ℕ) → RowsEnd p h u xs
-    → Goes h (listing p h u xs) (Any.fed parser w p p.total u (packets xs)) p.total (u ++ bytes_of (packets xs))
-unfolding listing RowsEnd Any.fed
+    → Goes h (listing p h u xs) (AnyMachine.fed parser w p p.total u (packets xs)) p.total (u ++ bytes_of (packets xs))
+unfolding listing RowsEnd AnyMachine.fed
 goes [] w p h u ends =
     let all : p.total - p.total ≡ 0 = omega arith in
     record {
@@ -78,11 +78,11 @@ goes (x ∷ xs) w p h u ((v, stopped), ends) =
     let count : t.consumed ≡ r.consumed - p.total = omega (arith, row.consumed_is) in
     let far : t.consumed ≤ length s = omega (arith, row.consumed_is, take_within p s) in
     let one = goes xs r.stop t.parser t.held (drop t.consumed s) ends in
-    let tail : Any.fed parser r.stop t.parser t.parser.total (drop t.consumed s) (packets xs) ≡ Any.fed parser r.stop r.next r.consumed (drop (r.consumed - p.total) s) (packets xs) =
-    λ i. Any.fed parser r.stop (row.parser_is i) (total i) (drop (count i) s) (packets xs) in
-    let rest : Goes t.held (listing t.parser t.held (drop t.consumed s) xs) (Any.fed parser r.stop r.next r.consumed (drop (r.consumed - p.total) s) (packets xs)) t.parser.total (drop t.consumed s ++ bytes_of (packets xs)) =
+    let tail : AnyMachine.fed parser r.stop t.parser t.parser.total (drop t.consumed s) (packets xs) ≡ AnyMachine.fed parser r.stop r.next r.consumed (drop (r.consumed - p.total) s) (packets xs) =
+    λ i. AnyMachine.fed parser r.stop (row.parser_is i) (total i) (drop (count i) s) (packets xs) in
+    let rest : Goes t.held (listing t.parser t.held (drop t.consumed s) xs) (AnyMachine.fed parser r.stop r.next r.consumed (drop (r.consumed - p.total) s) (packets xs)) t.parser.total (drop t.consumed s ++ bytes_of (packets xs)) =
     subst (λ (f : Seen). Goes t.held (listing t.parser t.held (drop t.consumed s) xs) f t.parser.total (drop t.consumed s ++ bytes_of (packets xs))) tail one in
-    let f = Any.fed parser r.stop r.next r.consumed (drop (r.consumed - p.total) s) (packets xs) in
+    let f = AnyMachine.fed parser r.stop r.next r.consumed (drop (r.consumed - p.total) s) (packets xs) in
     let sum : t.consumed + (f.consumed - t.parser.total) ≡ f.consumed - p.total = omega (arith, rest.onward, total, row.consumed_is) in
     record {
       lines_are =

@@ -5,4 +5,3 @@ use Rattle.jxl_signatures.proofs.starts_with.Goals as goal
 
 pub returns-then-s-prefix : goal.returns-then-s-prefix
 returns-then-s-prefix c = sym (starts_short c.args.prefix.now c.args.s.now c.if-s-prefix.true)
-
