@@ -17,7 +17,7 @@ pub fn kind_of_file(input: &[u8]) -> BitstreamKind
     parser.kind()
 }
 
-// Whether a file starts with a container's signature. Nothing here is lent but the bytes, so its proof needs no walk.
+// Whether a file starts with a container's signature.
 pub fn is_container(input: &[u8]) -> bool
     ensures { result ≡ starts container_sig input.now }
 {

@@ -3,7 +3,7 @@ use Rattle.jxl_lines.proofs.Sizes.{most_bytes, least_bytes}
 use Rattle.jxl_lines.proofs.Ranges.{in_range}
 use Rattle.jxl_lines.proofs.Putting.{no_room, room}
 use Rattle.jxl_listing.proofs.put_line.Goals as goal
-use Rattle.jxl_listing.proofs.put_line.Goals.{then-at-out, else-at-out, then-room-lt56+else-room-n, else-room-lt56}
+use Rattle.jxl_listing.proofs.put_line.Goals.{then-at-out, else-at-out}
 
 pub returns-then-room-n : goal.returns-then-room-n
 returns-then-room-n c =
@@ -15,10 +15,7 @@ write_line-requires c =
     let line = c.args.line in
     let least = least_bytes line in
     let most = most_bytes line (in_range line _ c.well_formed.1.1.0) in
-    elim c.if-room-lt56.branch [
-      | then-room-lt56+else-room-n v ↦ elim c.if-at-out.branch [ then-at-out w ↦ omega arith | else-at-out w ↦ omega arith ]
-      | else-room-lt56 v ↦ elim c.if-at-out.branch [ then-at-out w ↦ omega arith | else-at-out w ↦ omega arith ]
-    ]
+    grind arith
 
 pub returns : goal.returns
 returns c = room c.write_line.ensures
