@@ -8,7 +8,7 @@ use native.Mathlib.Nat.{not-suc-le-zero, mul_assoc, mul_comm, mul_left_comm, mul
 use native.Mathlib.Numerals.{add-one}
 use native.Mathlib.Omega.{arith}
 use borrow.Author.Count.{below_more}
-use borrow.Author.Tests.{lt-leb, le-leb, ne_eqb, eqb-false}
+use borrow.Author.Tests.{lt-leb, le-leb, eq-eqb, ne_eqb, eqb-false}
 use lib.Dec.{T, leb, eqb, eqb→eq, lit<}
 use lib.Ieee.Bits.{of_bits-to_bits}
 use lib.Ieee.Exact.{HasValue, odd_sign}
@@ -173,6 +173,11 @@ pub magnitude_above : (e m : ℕ) → (e ≡ 0 → ⊥) → magnitude e m ≡ (e
 unfolding magnitude
 magnitude_above zero m n = absurd (n refl)
 magnitude_above (suc e) m n = omega arith
+
+-- exponent 31 is refused
+pub refused_code : (v : ℕ) → exponent v ≡ 31 → widened v ≡ refuses 5
+unfolding widened
+refused_code v e = rw (eq-eqb (exponent v) 31 e)
 
 -- so an answer that is told as the rule has it is exact
 pub widened_exactly : (v : ℕ) → v < 2 ^ 16 → (w : Wide) → w ≡ widened v → (w ≡ widened v) × ExactlyWidened v w

@@ -26,6 +26,7 @@ fn subnormal(sign: u32, m: u32) -> f32
 }
 
 // The f32 that is the same number as an F16 code; exponent 31 is no number.
+#[tactic(auto, using(crate::proofs::Halves::refused_code))]
 pub fn widen(code: u16) -> Widened
     ensures result_value { told result ≡ widened code }
     ensures exactly_widened { ExactlyWidened code (told result) }

