@@ -12,6 +12,7 @@ pub use jxl_moves::{consume_bits, skip_bits};
 pub use jxl_reads::{peek_bits, read_bits, read_bool};
 
 // `ZeroPadToByte`: the bits up to the next byte boundary, which must be 0.
+#[tactic(auto, using(crate::proofs::Padding::pads))]
 pub fn zero_pad_to_byte(s: &[u8], at: usize) -> Moved
     ensures { told_moved result ≡ F.pad s.now at }
 {

@@ -1,6 +1,5 @@
--- The beginning, then the bits up to the byte boundary, read as the rule's part.
-use Rattle.std.proofs.Common.{false, eq-eqb, arith}
-use borrow.Author.Tests.{ne_eqb}
+-- Where the beginning or the bits are refused. That the bits are 0, or are not, needs no answer: `pads` says what follows.
+use Rattle.std.proofs.Common.{false, arith}
 use Rattle.jxl_bit_rules.specs.Readers.{to_byte, pad}
 use Rattle.jxl_bit_rules.proofs.Parts.{begun, long_only, short}
 use Rattle.jxl_bit_rules.proofs.Readers.{as_part}
@@ -18,21 +17,3 @@ returns-in_default-read_bits c =
     let h = begun false s c.args.at p c.in-To.ensures in
     let none = as_part (to_byte p) s p h.short h.within (omega arith) c.in_default-read_bits.ensures in
     rw (← c.in-To.ensures, short (to_byte p) s p _ _ _ none)
-
-pub returns-then-x-eq0 : goal.returns-then-x-eq0
-unfolding pad
-returns-then-x-eq0 c =
-    let s = c.args.s.now in
-    let p = c.in-To.p in
-    let h = begun false s c.args.at p c.in-To.ensures in
-    let read = as_part (to_byte p) s p h.short h.within (omega arith) c.in-Value.ensures in
-    rw (← c.in-To.ensures, ← read, eq-eqb _ _ c.if-x-eq0.true)
-
-pub returns-else-x-eq0 : goal.returns-else-x-eq0
-unfolding pad
-returns-else-x-eq0 c =
-    let s = c.args.s.now in
-    let p = c.in-To.p in
-    let h = begun false s c.args.at p c.in-To.ensures in
-    let read = as_part (to_byte p) s p h.short h.within (omega arith) c.in-Value.ensures in
-    rw (← c.in-To.ensures, ← read, ne_eqb _ _ c.if-x-eq0.false)
