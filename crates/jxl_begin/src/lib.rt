@@ -5,7 +5,7 @@ ghost use Rattle.std.specs.Prelude.{◌≡◌};
 ghost use Rattle.jxl_bit_rules.specs.Readers as F;
 ghost use Rattle.jxl_bit_rules.specs.Told.{told_moved};
 
-use jxl_bit_rules::{FieldRefusal, Moved};
+use jxl_bit_rules::{FieldRefusal, Moved, Refused};
 
 // What comes before every reading: 8, 7, then the position moved to the end.
 #[tactic(auto, unfolding(jxl_bit_rules::specs::Readers::begin))]
@@ -13,15 +13,16 @@ pub fn begin(s: &[u8], at: usize, wide: bool) -> Moved
     ensures { told_moved result ≡ F.begin wide s.now at }
 {
     if 0x1fff_ffff_ffff_ffff < s.len() {
-        return Moved::Refused(FieldRefusal::TooLong, at);
+        return Err(Refused {
+            refusal: FieldRefusal::TooLong,
+            at,
+        });
     }
     if wide {
-        return Moved::Refused(FieldRefusal::Width, at);
+        return Err(Refused {
+            refusal: FieldRefusal::Width,
+            at,
+        });
     }
-    let end = 8 * s.len();
-    if at <= end {
-        Moved::To(at)
-    } else {
-        Moved::To(end)
-    }
+    Ok(at.min(8 * s.len()))
 }

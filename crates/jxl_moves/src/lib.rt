@@ -7,7 +7,7 @@ ghost use Rattle.jxl_bit_rules.specs.Inside.{Ready};
 ghost use Rattle.jxl_bit_rules.specs.Told.{told_moved};
 
 use jxl_begin::begin;
-use jxl_bit_rules::{FieldRefusal, Moved};
+use jxl_bit_rules::{FieldRefusal, Moved, Refused};
 
 // On by `n` if that many bits are left; else a refusal that leaves the reader at `stop`.
 fn step(s: &[u8], p: usize, n: usize, stop: usize) -> Moved
@@ -15,9 +15,12 @@ fn step(s: &[u8], p: usize, n: usize, stop: usize) -> Moved
     ensures { told_moved result ≡ F.move n stop s.now p }
 {
     if n <= 8 * s.len() - p {
-        Moved::To(p + n)
+        Ok(p + n)
     } else {
-        Moved::Refused(FieldRefusal::UnexpectedEof, stop)
+        Err(Refused {
+            refusal: FieldRefusal::UnexpectedEof,
+            at: stop,
+        })
     }
 }
 
@@ -26,10 +29,8 @@ fn step(s: &[u8], p: usize, n: usize, stop: usize) -> Moved
 pub fn consume_bits(s: &[u8], at: usize, n: usize) -> Moved
     ensures { told_moved result ≡ F.consume n s.now at }
 {
-    match begin(s, at, 32 < n) {
-        Moved::Refused(refusal, p) => Moved::Refused(refusal, p),
-        Moved::To(p) => step(s, p, n, p),
-    }
+    let p = begin(s, at, 32 < n)?;
+    step(s, p, n, p)
 }
 
 // Moves on by `n`; where fewer bits are left it goes to the end.
@@ -37,11 +38,7 @@ pub fn consume_bits(s: &[u8], at: usize, n: usize) -> Moved
 pub fn skip_bits(s: &[u8], at: usize, n: usize) -> Moved
     ensures { told_moved result ≡ F.skip n s.now at }
 {
-    match begin(s, at, false) {
-        Moved::Refused(refusal, p) => Moved::Refused(refusal, p),
-        Moved::To(p) => {
-            let end = 8 * s.len();
-            step(s, p, n, end)
-        }
-    }
+    let p = begin(s, at, false)?;
+    let end = 8 * s.len();
+    step(s, p, n, end)
 }
