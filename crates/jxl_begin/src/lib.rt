@@ -1,7 +1,8 @@
-// What comes before every reading of bits and every move over them. The rules are in `jxl_bit_rules`.
+// What comes before every reading of bits and every move over them, and the place where it then stands. The rules are in `jxl_bit_rules`.
 #![tactic(auto)]
 
-ghost use Rattle.std.specs.Prelude.{◌≡◌};
+ghost use Rattle.std.specs.Prelude.{◌≡◌, ◌-◌, ◌^◌, ◌≤◌, length};
+ghost use Rattle.jxl_bit_rules.specs.Bits.{bits, end};
 ghost use Rattle.jxl_bit_rules.specs.Readers as F;
 ghost use Rattle.jxl_bit_rules.specs.Told.{told_moved};
 
@@ -25,4 +26,63 @@ pub fn begin(s: &[u8], at: usize, wide: bool) -> Moved
         });
     }
     Ok(at.min(8 * s.len()))
+}
+
+// The `n` bits at `at`, those beyond the end as 0.
+fn look(s: &[u8], at: usize, n: usize) -> u32
+    requires { n ≤ 32 }
+    ensures { result ≡ bits s.now at n }
+{
+    let w = jxl_window::window(s, at) >> (at % 8);
+    (w & ((1u64 << n) - 1)) as u32
+}
+
+// A bit position that `begin` lets through, in its slice: a reading may go on from here.
+#[derive(Clone, Copy)]
+pub struct Place<'a> {
+    pub bytes: &'a [u8],
+    pub at: usize,
+    ghost short: { length bytes.now ≤ 2 ^ 61 - 1 },
+    ghost within: { at ≤ end bytes.now },
+}
+
+impl<'a> Place<'a> {
+    ghost use Rattle.jxl_begin.specs.Places.{here, BeginsAt, GoesOn};
+
+    // What `begin` does, and the place that it leaves.
+    #[tactic(auto, using(jxl_bit_rules::proofs::Parts::begun))]
+    pub fn new(bytes: &'a [u8], at: usize, wide: bool) -> Result<Place<'a>, Refused>
+        ensures { BeginsAt bytes.entry (F.begin wide bytes.now at) result }
+    {
+        let at = begin(bytes, at, wide)?;
+        Ok(Place { bytes, at })
+    }
+
+    // The `n` bits from here, those beyond the end as 0.
+    pub fn look(self, n: usize) -> u32
+        requires { n ≤ 32 }
+        ensures { result ≡ bits self.entry.bytes.now self.entry.at n }
+    {
+        look(self.bytes, self.at, n)
+    }
+
+    // A part of `n` bits, and the place after it.
+    #[tactic(auto, unfolding(jxl_bit_rules::specs::Readers::part))]
+    pub fn read(self, n: usize) -> Result<(u32, Place<'a>), Refused>
+        requires { n ≤ 32 }
+        ensures { GoesOn self.entry.bytes (here (F.part n) self.entry) result }
+    {
+        if n <= 8 * self.bytes.len() - self.at {
+            let next = Place {
+                bytes: self.bytes,
+                at: self.at + n,
+            };
+            Ok((self.look(n), next))
+        } else {
+            Err(Refused {
+                refusal: FieldRefusal::UnexpectedEof,
+                at: self.at,
+            })
+        }
+    }
 }

@@ -16,7 +16,6 @@ use Rattle.jxl_bit_rules.specs.Answer.{Field, gives, refuses, ◌>>=◌, done}
 use Rattle.jxl_bit_rules.specs.Bits.{end}
 use Rattle.jxl_bit_rules.specs.Readers.{begin, part}
 use Rattle.jxl_field_rules.specs.Fields.{chunks, places, plus, u64_by, u64}
-use Rattle.jxl_bit_rules.specs.Refusals.{eof}
 use Rattle.jxl_field_rules.specs.Theorems.{AtMost73}
 use Rattle.jxl_field_rules.proofs.Choices.{no_bits}
 use Rattle.jxl_bit_rules.proofs.Parts.{begun, gave, given}
@@ -33,10 +32,10 @@ place (suc (suc (suc (suc (suc (suc i)))))) h = absurd (omega arith)
 
 module _ (v : ℕ) (s : List ℕ) (at : ℕ) where
   -- no flag is left
-  pub no_flag : (ps : List ℕ) → part 1 s at ≡ refuses eof [] at → chunks ps v s at ≡ refuses eof [] at
+  pub no_flag : (ps : List ℕ) (r : ℕ) (t : List ℕ) (p : ℕ) → refuses r t p ≡ part 1 s at → refuses r t p ≡ chunks ps v s at
   unfolding chunks
-  no_flag [] h = rw h
-  no_flag (p ∷ ps) h = rw h
+  no_flag [] r t p h = rw (← h)
+  no_flag (b ∷ ps) r t p h = rw (← h)
 
   module _ (flag after : ℕ) (h : gives flag after ≡ part 1 s at) where
     -- the flag is not 1
@@ -46,13 +45,9 @@ module _ (v : ℕ) (s : List ℕ) (at : ℕ) where
     stop (p ∷ ps) n = rw (← h, ne_eqb flag 1 n)
 
     -- it is 1, and no chunk is left
-    pub no_chunk : (p : ℕ) (ps : List ℕ) → flag ≡ 1 → part 8 s after ≡ refuses eof [] after → chunks (p ∷ ps) v s at ≡ refuses eof [] after
+    pub no_chunk : (b : ℕ) (ps : List ℕ) (r : ℕ) (t : List ℕ) (p : ℕ) → flag ≡ 1 → refuses r t p ≡ part 8 s after → refuses r t p ≡ chunks (b ∷ ps) v s at
     unfolding chunks
-    no_chunk p ps e k = rw (← h, eq-eqb flag 1 e, k)
-
-    pub no_last : flag ≡ 1 → part 4 s after ≡ refuses eof [] after → chunks [] v s at ≡ refuses eof [] after
-    unfolding chunks
-    no_last e k = rw (← h, eq-eqb flag 1 e, k)
+    no_chunk b ps r t p e k = rw (← h, eq-eqb flag 1 e, ← k)
 
     -- a chunk, and on; or the last one
     pub more : (p : ℕ) (ps : List ℕ) (x next : ℕ) → flag ≡ 1 → gives x next ≡ part 8 s after → chunks (p ∷ ps) v s at ≡ chunks ps (v + x * 2 ^ p) s next

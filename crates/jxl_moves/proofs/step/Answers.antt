@@ -7,8 +7,8 @@ use Rattle.jxl_moves.proofs.step.Goals as goal
 
 pub returns-then-n-s : goal.returns-then-n-s
 unfolding move
-returns-then-n-s c = rw (le-leb (c.args.p + c.args.n) (end c.args.s.now) (omega arith))
+returns-then-n-s c = rw (le-leb (c.args.place.at + c.args.n) (end c.args.place.bytes.now) (omega arith))
 
 pub returns-else-n-s : goal.returns-else-n-s
 unfolding move
-returns-else-n-s c = rw (lt-leb (c.args.p + c.args.n) (end c.args.s.now) (omega arith))
+returns-else-n-s c = rw (lt-leb (c.args.place.at + c.args.n) (end c.args.place.bytes.now) (omega arith))
