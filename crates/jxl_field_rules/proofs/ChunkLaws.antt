@@ -10,14 +10,14 @@ use borrow.Author.Tests.{eq-eqb, ne_eqb}
 use lib.Arith.{digits_lt}
 use lib.Bits.{bit_or, or_shifted_r}
 use lib.Dec.{eqb}
-use lib.ListN.{length, get_or, drop}
+use lib.ListN.{length, drop}
 use lib.Pow.{pow-add, shl_exact}
 use Rattle.jxl_bit_rules.specs.Answer.{Field, gives, refuses, ◌>>=◌, done}
 use Rattle.jxl_bit_rules.specs.Bits.{end}
 use Rattle.jxl_bit_rules.specs.Readers.{begin, part}
 use Rattle.jxl_field_rules.specs.Fields.{chunks, places, plus, u64_by, u64}
 use Rattle.jxl_field_rules.specs.Theorems.{AtMost73}
-use Rattle.jxl_field_rules.proofs.Choices.{no_bits}
+use Rattle.jxl_field_rules.proofs.Choices.{never_refused}
 use Rattle.jxl_bit_rules.proofs.Parts.{begun, gave, given}
 
 -- the places in turn
@@ -77,28 +77,15 @@ three P a b c (suc (suc (suc k))) h = absurd (omega arith)
 pub by_chunks : (k : ℕ) → 2 < k → (s : List ℕ) (at : ℕ) → u64_by k s at ≡ (part 12 >>= λ x. chunks places x) s at
 by_chunks k h s at = rw (ne_eqb k 0 (λ e. omega arith), ne_eqb k 1 (λ e. omega arith), ne_eqb k 2 (λ e. omega arith))
 
-abbrev pub short_widths : List ℕ
-short_widths = 0 ∷ 4 ∷ 8 ∷ []
-
-abbrev pub short_offsets : List ℕ
-short_offsets = 0 ∷ 1 ∷ 17 ∷ []
-
--- the others, as the code computes them
-module _ (k : ℕ) (h : k ≤ 2) where
-  pub width_two : k ≡ 2 → 8 ≡ get_or short_widths k 0
-  width_two e = rw e
-
-  pub width_less : (k ≡ 2 → ⊥) → 4 * k ≡ get_or short_widths k 0
-  width_less = three (λ k. (k ≡ 2 → ⊥) → 4 * k ≡ get_or short_widths k 0) (λ n. refl) (λ n. refl) (λ n. absurd (n refl)) k h
-
-  pub offset_two : k ≡ 2 → 17 ≡ get_or short_offsets k 0
-  offset_two e = rw e
-
-  pub offset_less : (k ≡ 2 → ⊥) → k ≡ get_or short_offsets k 0
-  offset_less = three (λ k. (k ≡ 2 → ⊥) → k ≡ get_or short_offsets k 0) (λ n. refl) (λ n. refl) (λ n. absurd (n refl)) k h
-
-  pub by_plus : (s : List ℕ) (at : ℕ) → at ≤ end s → plus (get_or short_widths k 0) (get_or short_offsets k 0) s at ≡ u64_by k s at
-  by_plus s at l = three (λ k. plus (get_or short_widths k 0) (get_or short_offsets k 0) s at ≡ u64_by k s at) (rw (no_bits s at l)) refl refl k h
+-- the others, where the part is refused, of the width as the code computes it
+pub short_refused : (k : ℕ) → k ≤ 2 → (s : List ℕ) (at w r : ℕ) (t : List ℕ) (p : ℕ) → at ≤ end s → (k ≡ 2 → w ≡ 8) → ((k ≡ 2 → ⊥) → w ≡ 4 * k)
+    → refuses r t p ≡ part w s at → refuses r t p ≡ u64_by k s at
+short_refused k l s at w r t p within two less h =
+    three (λ k. (k ≡ 2 → w ≡ 8) → ((k ≡ 2 → ⊥) → w ≡ 4 * k) → refuses r t p ≡ u64_by k s at)
+        (λ m n. never_refused s at r t p within (h ∙ ap (λ (j : ℕ). part j s at) (n (λ e. absurd (omega arith)))))
+        (λ m n. let e = h ∙ ap (λ (j : ℕ). part j s at) (n (λ e. absurd (omega arith))) in rw (← e))
+        (λ m n. let e = h ∙ ap (λ (j : ℕ). part j s at) (m refl) in rw (← e))
+        k l two less
 
 -- ---- U64 takes at most 73 bits
 same_place : {A : Type 0} {a b : A} {p q : ℕ} → gives a p ≡ gives b q → p ≡ q
