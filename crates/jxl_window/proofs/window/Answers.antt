@@ -1,5 +1,5 @@
 -- Eight bytes, the first lowest: read as they are, or each with 0 for what lies beyond the end.
-use Rattle.std.proofs.Common.{◌≡◌, ◌+◌, ◌*◌, ◌/◌, get_or, sym, ◌∙◌, arith}
+use Rattle.std.proofs.Common.{◌≡◌, ◌+◌, ◌*◌, ◌/◌, get_or, arith}
 use Rattle.jxl_bit_rules.proofs.Numbers.{eight}
 use Rattle.jxl_window.proofs.window.Goals as goal
 
