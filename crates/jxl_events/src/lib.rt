@@ -52,17 +52,36 @@ pub fn payload(s: &[u8], event: ParseEvent) -> &[u8]
     }
 }
 
+// The place of a payload of `len` bytes that ends at `total`; 0 if it is longer.
+fn place(total: u64, len: usize) -> usize
+    ensures { result ≡ total - len }
+{
+    (total as usize).saturating_sub(len)
+}
+
 impl FileEvent {
     // The event with its payload's place in the file, where a payload is the last that was consumed: `total` less its length.
-    pub fn in_file(mut self) -> FileEvent
+    pub fn in_file(self) -> FileEvent
         ensures { result ≡ in_file self }
     {
-        match &mut self.event {
-            ParseEvent::Codestream { at, len } | ParseEvent::AuxBoxData { at, len, .. } => {
-                *at = (self.total as usize).saturating_sub(*len);
-            }
-            _ => {}
+        let total = self.total;
+        match self.event {
+            ParseEvent::Codestream { len, .. } => FileEvent {
+                event: ParseEvent::Codestream {
+                    at: place(total, len),
+                    len,
+                },
+                total,
+            },
+            ParseEvent::AuxBoxData { ty, len, .. } => FileEvent {
+                event: ParseEvent::AuxBoxData {
+                    ty,
+                    at: place(total, len),
+                    len,
+                },
+                total,
+            },
+            _ => self,
         }
-        self
     }
 }
