@@ -11,7 +11,7 @@ use jxl_refusals::BoxRefusal;
 
 // The parser's whole record: the rules' own, the bytes consumed, and the first byte of the newest header (0 before the first one). The
 // rules on boxes know nothing of the two counts.
-#[derive(Clone, Copy)]
+#[derive(Clone, Copy, Debug, PartialEq, Eq)]
 pub struct ContainerParser {
     pub boxes: BoxParser,
     pub total: u64,
@@ -20,7 +20,7 @@ pub struct ContainerParser {
 
 // A refusal: the rule that broke, the bytes consumed then, and the place that it names: the first byte of the header that it
 // concerns, or, with none, the bytes consumed.
-#[derive(Clone, Copy)]
+#[derive(Clone, Copy, Debug, PartialEq, Eq)]
 pub struct FileRefusal {
     pub rule: BoxRefusal,
     pub total: u64,
