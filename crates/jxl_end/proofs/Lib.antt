@@ -1,3 +1,1 @@
-mod Taking
 pub mod Unique
-pub mod Ruled
