@@ -1,43 +1,13 @@
-use Rattle.std.proofs.Common.{◌≡◌, ℕ, ◌+◌, length, sym, ap, ◌∙◌, arith, length-append}
-use Rattle.jxl_totals.specs.declared.ContainerParser.{ContainerParser}
-use Rattle.jxl_lines.specs.Lines.{text}
-use Rattle.jxl_lines.specs.declared.Line.TheVariants as L
-use Rattle.jxl_list_rules.specs.Listed.{file_text}
-use Rattle.jxl_list_rules.proofs.Text.{Rest, following_shown, following_stopped, rest_file}
-use Rattle.jxl_list_file.proofs.Paste.{one_line, last_line}
+use Rattle.std.proofs.Common.{ap, arith, length, List}
+use Rattle.jxl_lines.specs.declared.Line.{Line}
+use Rattle.jxl_list_rules.specs.Listed.{text_of}
+use Rattle.jxl_list_file.proofs.Left.{all_left}
 use Rattle.jxl_list_file.proofs.measure.Goals as goal
 
-pub loop-event-init : goal.loop-event-init
-loop-event-init c =
-    let f = c.args.file.now in
-    let all : Rest c.new-parser.result f ≡ file_text f = ap (λ (p : ContainerParser). Rest p f) c.new-parser.ensures ∙ rest_file f in
-    record {
-      inside = omega (arith, ap (λ (p : ContainerParser). p.total) c.new-parser.ensures);
-      rest = omega (arith, ap length all);
-      summed = omega (arith, ap length all);
-    }
+pub loop-line-init : goal.loop-line-init
+loop-line-init c =
+    let all = all_left c.args.file.now c.into_iter-line-iterator.ensures.into_iter_gives c.of-line-items.ensures in
+    record { fits = omega arith; summed = omega (arith, ap length all) }
 
-pub loop-event-smaller : goal.loop-event-smaller
-loop-event-smaller c =
-    let l = c.loop-event in
-    let then = following_shown l.parser c.args.file.now l.invariant.inside (sym c.in-Shown.ensures) in
-    omega (arith, then.fewer)
-
-pub loop-event-preserved : goal.loop-event-preserved
-loop-event-preserved c =
-    let f = c.args.file.now in
-    let l = c.loop-event in
-    let then = following_shown l.parser f l.invariant.inside (sym c.in-Shown.ensures) in
-    let long : length (Rest l.parser f) ≡ c.line_length.result + length (Rest c.in-Shown.then f) =
-    ap length then.text_is ∙ length-append (text (L.Shown c.in-Shown.event)) _
-    ∙ ap (λ (n : ℕ). n + length (Rest c.in-Shown.then f)) (sym c.line_length.ensures) in
-    let sum = one_line (length (file_text f)) _ _ _ l.sum long l.invariant.rest l.invariant.summed in
-    record { inside = then.inside; rest = sum.0; summed = c.saturating_sum-sum.ensures ∙ sum.1 }
-
-pub returns-in-Stopped : goal.returns-in-Stopped
-returns-in-Stopped c =
-    let f = c.args.file.now in
-    let l = c.loop-event in
-    let long : length (Rest l.parser f) ≡ c.line_length-in-Stopped.result =
-    ap length (following_stopped l.parser f l.invariant.inside (sym c.in-Stopped.ensures)) ∙ sym c.line_length-in-Stopped.ensures in
-    c.saturating_sum.ensures ∙ last_line (length (file_text f)) _ _ l.sum long l.invariant.rest l.invariant.summed
+pub returns : goal.returns
+returns c = omega (arith, c.loop-line.invariant.fits, c.loop-line.invariant.summed, ap (λ (ls : List Line). length (text_of ls)) c.in-None.ensures.steps.0)

@@ -1,64 +1,32 @@
-use Rattle.std.proofs.Common.{◌≡◌, [], ◌++◌, length, drop, refl, sym, ap, ◌∙◌, append-nil, arith, length-drop}
-use Rattle.jxl_totals.specs.declared.ContainerParser.{ContainerParser}
+use Rattle.std.proofs.Common.{◌≡◌, length, refl, sym, ap, ◌∙◌, arith, length-drop}
 use Rattle.jxl_lines.specs.Lines.{text}
-use Rattle.jxl_lines.specs.declared.Line.TheVariants as L
-use Rattle.jxl_list_rules.specs.Listed.{file_text}
-use Rattle.jxl_list_rules.proofs.Text.{Rest, following_shown, following_stopped, rest_file}
+use Rattle.jxl_list_rules.specs.Listed.{file_text, lines_left, text_of}
+use Rattle.jxl_list_file.proofs.Left.{all_left}
 use Rattle.jxl_list_file.proofs.Paste.{line_fits, next_line, paste_all}
 use Rattle.jxl_list_file.proofs.write.Goals as goal
 
-pub loop-event-init : goal.loop-event-init
-loop-event-init c =
-    let f = c.args.file.now in
-    record {
-      inside = omega (arith, ap (λ (p : ContainerParser). p.total) c.new-parser.ensures);
-      within = omega arith;
-      rest = sym (ap (λ (p : ContainerParser). Rest p f) c.new-parser.ensures ∙ rest_file f);
-      front = refl;
-    }
+pub loop-line-init : goal.loop-line-init
+loop-line-init c =
+    let all = all_left c.args.file.now c.into_iter-line-iterator.ensures.into_iter_gives c.of-line-items.ensures in
+    record { within = omega arith; rest = sym all; front = refl }
 
 pub put-written-requires : goal.put-written-requires
 put-written-requires c =
-    let f = c.args.file.now in
-    let l = c.loop-event in
-    let then = following_shown l.parser f l.invariant.inside (sym c.in-Shown.ensures) in
-    line_fits (file_text f) c.args.out.now l.out (text (L.Shown c.in-Shown.event)) (Rest c.in-Shown.then f) l.written c.requires l.invariant.within
-    (l.invariant.rest ∙ then.text_is) l.invariant.front
+    let l = c.loop-line in
+    line_fits (file_text c.args.file.now) c.args.out.now l.out (text c.in-Some.line) (text_of (lines_left c.next.new.self.next c.next.new.self.file.now)) l.written
+    c.requires l.invariant.within (l.invariant.rest ∙ ap text_of c.in-Some.ensures.steps) l.invariant.front
 
-pub loop-event-smaller : goal.loop-event-smaller
-loop-event-smaller c =
-    let l = c.loop-event in
-    let then = following_shown l.parser c.args.file.now l.invariant.inside (sym c.in-Shown.ensures) in
-    omega (arith, then.fewer)
-
-pub loop-event-preserved : goal.loop-event-preserved
-loop-event-preserved c =
-    let f = c.args.file.now in
-    let l = c.loop-event in
-    let then = following_shown l.parser f l.invariant.inside (sym c.in-Shown.ensures) in
+pub loop-line-preserved : goal.loop-line-preserved
+loop-line-preserved c =
+    let l = c.loop-line in
     let put =
-    next_line (file_text f) c.args.out.now l.out (text (L.Shown c.in-Shown.event)) (Rest c.in-Shown.then f) l.written c.requires l.invariant.within
-    (l.invariant.rest ∙ then.text_is) l.invariant.front c.put-written.result c.put-written.new.out c.put-written.ensures in
-    record { inside = then.inside; within = put.0; rest = put.1; front = put.2 }
+    next_line (file_text c.args.file.now) c.args.out.now l.out (text c.in-Some.line) (text_of (lines_left c.next.new.self.next c.next.new.self.file.now)) l.written
+    c.requires l.invariant.within (l.invariant.rest ∙ ap text_of c.in-Some.ensures.steps) l.invariant.front c.put-written.result c.put-written.new.out c.put-written.ensures in
+    record { within = put.0; rest = put.1; front = put.2 }
 
--- the stop's line is the last
-pub put-requires : goal.put-requires
-put-requires c =
-    let f = c.args.file.now in
-    let l = c.loop-event in
-    let line = text (L.Stopped c.in-Stopped.stop c.in-Stopped.last.total) in
-    let last : drop l.written (file_text f) ≡ line ++ [] =
-    l.invariant.rest ∙ following_stopped l.parser f l.invariant.inside (sym c.in-Stopped.ensures) ∙ sym (append-nil _) in
-    line_fits (file_text f) c.args.out.now l.out line [] l.written c.requires l.invariant.within last l.invariant.front
-
-pub returns-in-Stopped : goal.returns-in-Stopped
-returns-in-Stopped c =
-    let f = c.args.file.now in
-    let l = c.loop-event in
-    let line = text (L.Stopped c.in-Stopped.stop c.in-Stopped.last.total) in
-    let last : drop l.written (file_text f) ≡ line ++ [] =
-    l.invariant.rest ∙ following_stopped l.parser f l.invariant.inside (sym c.in-Stopped.ensures) ∙ sym (append-nil _) in
-    let put =
-    next_line (file_text f) c.args.out.now l.out line [] l.written c.requires l.invariant.within last l.invariant.front c.put.result c.put.new.out c.put.ensures in
-    let whole : c.put.result ≡ length (file_text f) = omega (arith, put.0, ap length put.1, length-drop c.put.result (file_text f)) in
-    (whole, put.2 ∙ paste_all (file_text f) _ c.put.result whole)
+pub returns : goal.returns
+returns c =
+    let l = c.loop-line in
+    let none = l.invariant.rest ∙ ap text_of c.in-None.ensures.steps.0 in
+    let whole : l.written ≡ length (file_text c.args.file.now) = omega (arith, l.invariant.within, ap length none, length-drop l.written (file_text c.args.file.now)) in
+    (whole, l.invariant.front ∙ paste_all (file_text c.args.file.now) c.args.out.now l.written whole)
