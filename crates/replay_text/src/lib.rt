@@ -1,7 +1,114 @@
-// Text for the programs that replay stored answers: lines and numbers in a slice of bytes. Nothing is asked of a caller.
+// What the programs that replay stored answers share: a list read from standard input, its lines, the numbers in a line, and a tally of
+// the answers compared. Nothing is asked of a caller.
 #![tactic(auto)]
 
-ghost use Rattle.std.specs.Prelude.{◌≤◌, ◌<◌, length};
+ghost use Rattle.std.specs.Prelude.{◌≡◌, ◌+◌, ◌≤◌, ◌<◌, length, IfSome};
+ghost use Rattle.std.specs.Iterator.{at_most};
+
+use std::io::Read;
+use std::{fmt, io};
+
+// Standard input, as far as `most` bytes.
+pub fn read_input(rt: &(impl Input + AllocGlobal), most: u64) -> io::Result<Vec<u8>> {
+    let mut text = Vec::new(rt.alloc());
+    rt.reader().take(most).read_to_end(&mut text)?;
+    Ok(text)
+}
+
+// What stands before the first `b`, and what stands behind it.
+pub fn split_once(text: &[u8], b: u8) -> Option<(&[u8], &[u8])>
+    ensures { IfSome result (λ parts. length parts.0.now + length parts.1.now + 1 ≡ length text.now) }
+{
+    let at = text.iter().position(|x| *x == b)?;
+    Some((&text[..at], &text[at + 1..]))
+}
+
+// The lines of a text, without their line ends. Behind the last line end there is no line.
+#[derive(Drop)]
+pub struct TextLines<'a>(&'a [u8]);
+
+pub fn lines(text: &[u8]) -> TextLines<'_> {
+    TextLines(text)
+}
+
+impl<'a> Iterator for TextLines<'a> {
+    type Item = &'a [u8];
+
+    ghost remaining = { λ left. at_most (length left.0.now) };
+
+    fn next(&mut self) -> Option<&'a [u8]> {
+        if self.0.is_empty() {
+            return None;
+        }
+        let (line, rest) = split_once(self.0, b'\n').unwrap_or((self.0, b""));
+        self.0 = rest;
+        Some(line)
+    }
+}
+
+// What a digit counts. Of the letters only the small ones are digits.
+fn digit_of(b: u8) -> Option<u64> {
+    match b {
+        b'0'..=b'9' => Some(u64::from(b - b'0')),
+        b'a'..=b'f' => Some(u64::from(b - b'a') + 10),
+        _ => None,
+    }
+}
+
+// A number with one more digit, where that is one and 64 bits hold it.
+fn append_digit(value: u64, radix: u64, b: u8) -> Option<u64> {
+    let d = digit_of(b).filter(|d| *d < radix)?;
+    value.checked_mul(radix)?.checked_add(d)
+}
+
+// The number that a text begins with, of as many digits as are there and fit in 64 bits, and what stands behind it.
+pub fn leading_number(text: &[u8], radix: u64) -> (u64, &[u8]) {
+    let mut value = 0;
+    for (at, b) in text.iter().enumerate() {
+        let Some(more) = append_digit(value, radix, *b) else {
+            return (value, &text[at..]);
+        };
+        value = more;
+    }
+    (value, b"")
+}
+
+// A list of stored answers as it is replayed: the lines passed, the answers compared, and those that differ.
+#[derive(Clone, Copy, Default)]
+pub struct Tally {
+    pub lines: u64,
+    pub compared: u64,
+    pub differ: u64,
+}
+
+impl Tally {
+    // Passes one more line.
+    pub fn pass_line(&mut self) {
+        self.lines = self.lines.saturating_add(1);
+    }
+
+    // Counts the answer of the newest line. Prints the line's number where it differs, for the first ten.
+    pub fn compare(&mut self, rt: &impl Print, agrees: bool) -> io::Result<()> {
+        self.compared = self.compared.saturating_add(1);
+        if agrees {
+            return Ok(());
+        }
+        self.differ = self.differ.saturating_add(1);
+        if self.differ <= 10 {
+            let line = self.lines;
+            println!(rt; "line {line} differs")?;
+        }
+        Ok(())
+    }
+}
+
+impl fmt::Display for Tally {
+    fn fmt<W: fmt::Write>(&self, f: &mut fmt::Formatter<W>) -> fmt::Result {
+        let compared = self.compared;
+        let differ = self.differ;
+        write!(f, "{compared} answers compared, {differ} differ")
+    }
+}
 
 // A number, and the place after its last digit.
 #[derive(Clone, Copy)]
