@@ -6,49 +6,34 @@ use jxl_slices::part;
 
 // Where a packet of `packet` bytes ends that begins at `end`; the last one ends with the file.
 pub fn packet_end(end: usize, packet: usize, len: usize) -> usize {
-    if len < end {
-        return len;
-    }
-    if len - end < packet {
-        len
-    } else {
-        std::num::wrapping_add_usize(end, packet)
-    }
+    end.saturating_add(packet).min(len)
 }
 
 // What an event adds to the sum: 1, and for a payload its length.
 pub fn weight(event: FileEvent) -> u64 {
-    let shown = event.event;
-    match shown {
-        ParseEvent::Codestream { at: _, len } => std::num::wrapping_add_u64(len as u64, 1),
-        ParseEvent::AuxBoxData { ty: _, at: _, len } => std::num::wrapping_add_u64(len as u64, 1),
-        ParseEvent::BitstreamKind(_) => 1,
-        ParseEvent::NoMoreAuxBox => 1,
-        ParseEvent::AuxBoxStart {
-            ty: _,
-            brotli_compressed: _,
-            last_box: _,
-        } => 1,
-        ParseEvent::AuxBoxEnd { ty: _ } => 1,
+    match event.event {
+        ParseEvent::Codestream { len, .. } | ParseEvent::AuxBoxData { len, .. } => {
+            (len as u64).wrapping_add(1)
+        }
+        _ => 1,
     }
 }
 
 // The events from `from` on of a file given in packets, each behind the bytes left unread: the sum of their weights. The first
 // packet ends at `first`. A proved loop has to end: after `most` steps.
 pub fn events(
-    p: ContainerParser,
+    start: ContainerParser,
     file: &[u8],
     from: usize,
     first: usize,
     packet: usize,
     most: u64,
 ) -> u64 {
-    let mut parser = p;
+    let mut parser = start;
     let mut at = from;
     let mut end = first;
     let mut sum: u64 = 0;
-    let mut steps: u64 = 0;
-    while steps < most {
+    for _ in 0..most {
         match jxl_container::step(parser, part(file, at, end)) {
             StepResult::Shown {
                 next,
@@ -56,32 +41,16 @@ pub fn events(
                 event,
             } => {
                 parser = next;
-                at = std::num::wrapping_add_usize(at, consumed);
-                sum = std::num::wrapping_add_u64(sum, weight(event));
+                at = at.wrapping_add(consumed);
+                sum = sum.wrapping_add(weight(event));
             }
-            StepResult::Want { next, consumed } => {
-                if end == file.len() {
-                    return sum;
-                }
+            StepResult::Want { next, consumed } if end != file.len() => {
                 parser = next;
-                at = std::num::wrapping_add_usize(at, consumed);
+                at = at.wrapping_add(consumed);
                 end = packet_end(end, packet, file.len());
             }
-            StepResult::Refused {
-                next: _,
-                consumed: _,
-                refusal: _,
-            } => {
-                return sum;
-            }
-            StepResult::Closed {
-                next: _,
-                consumed: _,
-            } => {
-                return sum;
-            }
+            _ => break,
         }
-        steps += 1;
     }
     sum
 }

@@ -7,22 +7,15 @@ use jxl_container::ContainerParser;
 use jxl_joiner::Joiner;
 use jxl_list_turn::TurnEnd;
 
-// Whether a turn ended because the next line has no room.
-fn is_full(end: TurnEnd) -> bool {
-    match end {
-        TurnEnd::Full => true,
-        _ => false,
-    }
-}
-
 // Where the next lines go: behind those written, while there is room for a line; from then on to the front.
 fn place(written: usize, len: usize) -> usize
     ensures { result ≤ len }
 {
-    if len < 64 {
-        return 0;
+    if written <= len.saturating_sub(64) {
+        written
+    } else {
+        0
     }
-    if written <= len - 64 { written } else { 0 }
 }
 
 // The lines of a file given in packets, each behind the bytes left unread: how many bytes they have. Where `out` has room for
@@ -31,28 +24,23 @@ fn place(written: usize, len: usize) -> usize
 pub extern "C" fn bench_turns(file: &[u8], packet: usize, out: &mut [u8], most: u64) -> usize {
     let mut parser = ContainerParser::new();
     let mut joiner = Joiner::new();
-    let mut at = 0;
+    let mut at = 0usize;
     let mut end = bench_parts::packet_end(0, packet, file.len());
-    let mut written = 0;
-    let mut turns: u64 = 0;
-    while turns < most {
-        turns += 1;
+    let mut written = 0usize;
+    for _ in 0..most {
         let from = place(written, out.len());
         let input = jxl_slices::part(file, at, end);
         let after = jxl_list_turn::turn(parser, joiner, input, &mut out[from..]);
-        at = std::num::wrapping_add_usize(at, after.consumed);
-        written = std::num::wrapping_add_usize(written, after.written);
-        let why = after.end;
-        if !is_full(why) {
+        at = at.wrapping_add(after.consumed);
+        written = written.wrapping_add(after.written);
+        if !matches!(after.end, TurnEnd::Full) {
             if end == file.len() {
-                return written;
+                break;
             }
             end = bench_parts::packet_end(end, packet, file.len());
         }
-        let next = after.parser;
-        parser = next;
-        let held = after.joiner;
-        joiner = held;
+        parser = after.parser;
+        joiner = after.joiner;
     }
     written
 }

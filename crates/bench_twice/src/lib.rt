@@ -17,5 +17,5 @@ pub extern "C" fn bench_twice(file: &[u8], packet: usize, most: u64) -> u64 {
         return 0;
     };
     let sum = bench_parts::events(next, file, consumed, end, packet, most);
-    std::num::wrapping_add_u64(sum, bench_parts::weight(event))
+    sum.wrapping_add(bench_parts::weight(event))
 }

@@ -95,3 +95,14 @@ pub fn hold(line: &mut String, is_kept: bool) -> Result<(), AllocError> {
     }
     put(line, Token::Broken)
 }
+
+// The byte that two digits of hex tell.
+fn byte(digits: &[u8]) -> u8 {
+    let (value, _) = replay_text::leading_number(digits, 16);
+    (value & 0xff) as u8
+}
+
+// The bytes that a text of hex tells.
+pub fn file(alloc: Global, hex: &[u8]) -> Result<Vec<u8>, AllocError> {
+    hex.chunks(2).map(byte).collect(alloc)
+}
