@@ -3,6 +3,7 @@
 
 ghost use Rattle.std.specs.Prelude.{◌≤◌};
 
+use bench_parts::Packets;
 use jxl_container::ContainerParser;
 use jxl_joiner::Joiner;
 use jxl_list_turn::TurnEnd;
@@ -24,23 +25,18 @@ fn place(written: usize, len: usize) -> usize
 pub extern "C" fn bench_turns(file: &[u8], packet: usize, out: &mut [u8], most: u64) -> usize {
     let mut parser = ContainerParser::new();
     let mut joiner = Joiner::new();
-    let mut at = 0usize;
-    let mut end = bench_parts::packet_end(0, packet, file.len());
-    let mut written = 0usize;
+    let mut packets = Packets::new(file, packet);
+    let mut written: usize = 0;
     for _ in 0..most {
         let from = place(written, out.len());
-        let input = jxl_slices::part(file, at, end);
-        let after = jxl_list_turn::turn(parser, joiner, input, &mut out[from..]);
-        at = at.wrapping_add(after.consumed);
+        let after = jxl_list_turn::turn(parser, joiner, packets.input(), &mut out[from..]);
+        packets.consume(after.consumed);
         written = written.wrapping_add(after.written);
-        if !matches!(after.end, TurnEnd::Full) {
-            if end == file.len() {
-                break;
-            }
-            end = bench_parts::packet_end(end, packet, file.len());
-        }
         parser = after.parser;
         joiner = after.joiner;
+        if !matches!(after.end, TurnEnd::Full) && !packets.has_next() {
+            break;
+        }
     }
     written
 }
