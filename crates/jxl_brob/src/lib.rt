@@ -1,5 +1,4 @@
-// One step at the inner type that a `brob` payload starts with, after the Rust's container/parse.rs. The input is lent whole, and the
-// payload starts `at` bytes on.
+// One step at the inner type that a `brob` payload starts with, after the Rust's container/parse.rs.
 #![tactic(auto)]
 
 ghost use Rattle.std.specs.Prelude.{◌≡◌, true, drop};
@@ -14,8 +13,7 @@ ghost use Rattle.jxl_payloads.specs.Told.{told};
 
 use jxl_events::ParseEvent;
 use jxl_headers::{BytesLeft, box_header};
-use jxl_payload_starts::is_short;
-use jxl_payloads::{BoxResult, refuse};
+use jxl_payloads::{BoxResult, Payload, refuse};
 use jxl_record::{BoxParser, DetectState, JxlpIndexState};
 use jxl_refusals::BoxRefusal;
 
@@ -23,13 +21,9 @@ use jxl_refusals::BoxRefusal;
 fn is_reserved(ty: u32) -> bool
     ensures { result ≡ reserved ty }
 {
-    if ty / 256 == 0x6a786c {
-        return true;
-    }
-    if ty == box_header::BROTLI_COMPRESSED {
-        return true;
-    }
-    ty == box_header::JPEG_RECONSTRUCTION
+    ty / 256 == 0x6a786c
+        || ty == box_header::BROTLI_COMPRESSED
+        || ty == box_header::JPEG_RECONSTRUCTION
 }
 
 // The start of a `brob`'s inner box of type `ty`, whose 4 bytes end at `consumed`.
@@ -51,18 +45,20 @@ fn inner_start(jxlp: JxlpIndexState, left: BytesLeft, ty: u32, consumed: usize) 
     }
 }
 
-// A `brob` payload at `at`.
-pub fn inner_step(jxlp: JxlpIndexState, left: BytesLeft, s: &[u8], at: usize) -> BoxResult
-    ensures { told result ≡ numbered (Spec.ahead at (Spec.inner_step jxlp left (drop at s.now))) }
+// A `brob` payload.
+#[tactic(auto, using(jxl_grammar::proofs::Step::far_inner_wants, jxl_grammar::proofs::Step::far_inner_reserved, jxl_grammar::proofs::Step::far_inner_shows))]
+pub fn inner_step(jxlp: JxlpIndexState, payload: Payload<'_>) -> BoxResult
+    ensures { told result ≡ numbered (Spec.ahead payload.entry.at (Spec.inner_step jxlp payload.entry.left (drop payload.entry.at payload.entry.input.now))) }
 {
+    let Payload { left, at, .. } = payload;
     let waiting = BoxParser::at(DetectState::WaitingInnerType(left), jxlp);
-    if is_short(s, at) {
+    if payload.is_short() {
         return BoxResult::Want {
             next: waiting,
             consumed: at,
         };
     }
-    let ty = box_header::be32_at(s, at);
+    let ty = payload.word();
     if is_reserved(ty) {
         return refuse(BoxRefusal::ValidationFailed, waiting, at + 4);
     }

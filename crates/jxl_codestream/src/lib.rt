@@ -1,4 +1,4 @@
-// One step inside a codestream, after the Rust's container/parse.rs. The input is lent whole, and the payload starts `at` bytes on.
+// One step inside a codestream, after the Rust's container/parse.rs.
 #![tactic(auto)]
 
 ghost use Rattle.std.specs.Prelude.{◌≡◌, ◌+◌, ◌^◌, ◌<◌, drop};
@@ -8,7 +8,7 @@ ghost use Rattle.jxl_payloads.specs.Told.{told};
 
 use jxl_events::ParseEvent;
 use jxl_headers::BytesLeft;
-use jxl_payloads::BoxResult;
+use jxl_payloads::{BoxResult, Payload};
 use jxl_record::{BitstreamKind, BoxParser, DetectState, JxlpIndexState};
 
 // A record inside a codestream.
@@ -64,18 +64,18 @@ fn code_part(
     }
 }
 
-// Inside a codestream, at `at`; nothing is there behind the end.
+// Inside a codestream, at a payload; nothing is there behind the end.
+#[tactic(auto, using(jxl_grammar::proofs::Step::far_code_wants, jxl_grammar::proofs::Step::far_code_pending, jxl_grammar::proofs::Step::far_code_shows))]
 pub fn code_step(
     jxlp: JxlpIndexState,
     kind: BitstreamKind,
-    left: BytesLeft,
     pending: bool,
-    s: &[u8],
-    at: usize,
+    payload: Payload<'_>,
 ) -> BoxResult
-    ensures { told result ≡ numbered (Spec.ahead at (Spec.code_step jxlp kind left pending (drop at s.now))) }
+    ensures { told result ≡ numbered (Spec.ahead payload.entry.at (Spec.code_step jxlp kind payload.entry.left pending (drop payload.entry.at payload.entry.input.now))) }
 {
-    if s.len() <= at {
+    let Payload { left, input, at } = payload;
+    if input.len() <= at {
         return BoxResult::Want {
             next: in_codestream(kind, left, pending, jxlp),
             consumed: at,
@@ -88,5 +88,5 @@ pub fn code_step(
             consumed: at,
         };
     }
-    code_part(jxlp, kind, left, at, s.len() - at)
+    code_part(jxlp, kind, left, at, input.len() - at)
 }

@@ -8,7 +8,7 @@ ghost use Rattle.jxl_events.specs.Total.{in_file};
 use jxl_record::BitstreamKind;
 
 // What a step shows. A payload is named by its place and length: in the step's input, or, behind `in_file` and a joiner, in the file.
-#[derive(Clone, Copy)]
+#[derive(Clone, Copy, Debug, PartialEq, Eq)]
 pub enum ParseEvent {
     BitstreamKind(BitstreamKind),
     NoMoreAuxBox,
@@ -32,25 +32,10 @@ pub enum ParseEvent {
 }
 
 // An event of a file, with the bytes consumed when it was given.
-#[derive(Clone, Copy)]
+#[derive(Clone, Copy, Debug, PartialEq, Eq)]
 pub struct FileEvent {
     pub event: ParseEvent,
     pub total: u64,
-}
-
-// The `len` bytes at `at`; an empty part if they lie outside.
-fn part(s: &[u8], at: usize, len: usize) -> &[u8]
-    ensures { result.now ≡ Spec.part s.now at len }
-{
-    let n = s.len();
-    if n < at {
-        return &s[0..0];
-    }
-    if n - at < len {
-        return &s[0..0];
-    }
-    let end = at + len;
-    &s[at..end]
 }
 
 // The part of a step's input that its event shows, as the step told it, not behind `in_file`; an empty part if the event shows none, or
@@ -59,9 +44,11 @@ pub fn payload(s: &[u8], event: ParseEvent) -> &[u8]
     ensures { result.now ≡ Spec.payload_of s.now event }
 {
     match event {
-        ParseEvent::Codestream { at, len } => part(s, at, len),
-        ParseEvent::AuxBoxData { ty: _, at, len } => part(s, at, len),
-        _ => &s[0..0],
+        ParseEvent::Codestream { at, len } | ParseEvent::AuxBoxData { at, len, .. } => {
+            let behind = s.get(at..).unwrap_or(&[]);
+            behind.get(..len).unwrap_or(&[])
+        }
+        _ => &[],
     }
 }
 
@@ -69,10 +56,7 @@ pub fn payload(s: &[u8], event: ParseEvent) -> &[u8]
 fn place(total: u64, len: usize) -> usize
     ensures { result ≡ total - len }
 {
-    if (total as usize) < len {
-        return 0;
-    }
-    total as usize - len
+    (total as usize).saturating_sub(len)
 }
 
 impl FileEvent {
@@ -80,17 +64,16 @@ impl FileEvent {
     pub fn in_file(self) -> FileEvent
         ensures { result ≡ in_file self }
     {
-        let event = self.event;
         let total = self.total;
-        match event {
-            ParseEvent::Codestream { at: _, len } => FileEvent {
+        match self.event {
+            ParseEvent::Codestream { len, .. } => FileEvent {
                 event: ParseEvent::Codestream {
                     at: place(total, len),
                     len,
                 },
                 total,
             },
-            ParseEvent::AuxBoxData { ty, at: _, len } => FileEvent {
+            ParseEvent::AuxBoxData { ty, len, .. } => FileEvent {
                 event: ParseEvent::AuxBoxData {
                     ty,
                     at: place(total, len),
@@ -98,7 +81,7 @@ impl FileEvent {
                 },
                 total,
             },
-            _ => FileEvent { event, total },
+            _ => self,
         }
     }
 }

@@ -6,7 +6,7 @@ ghost use Rattle.jxl_headers.specs.Header.{extended, header_of, numbered, told_h
 use crate::BytesLeft;
 use jxl_refusals::BoxRefusal;
 
-// Types of JPEG XL container boxes: the four bytes, the first the highest.
+// Types of JPEG XL container boxes: the four bytes, the first the highest. Numbers and no enum: any four bytes are a type.
 // JPEG XL signature box, `JXL `.
 pub const JXL: u32 = 0x4a584c20;
 // JPEG XL file type box, `ftyp`.
@@ -33,14 +33,14 @@ pub const JPEG_RECONSTRUCTION: u32 = 0x6a627264;
 pub const HDR_GAIN_MAP: u32 = 0x6a68676d;
 
 // A box's type and how far its payload reaches.
-#[derive(Clone, Copy)]
+#[derive(Clone, Copy, Debug, PartialEq, Eq)]
 pub struct ContainerBoxHeader {
     pub ty: u32,
     pub box_size: BytesLeft,
 }
 
 // Result of reading a box header.
-#[derive(Clone, Copy)]
+#[derive(Clone, Copy, Debug, PartialEq, Eq)]
 pub enum HeaderParseResult {
     Done {
         header: ContainerBoxHeader,
@@ -50,36 +50,20 @@ pub enum HeaderParseResult {
     Refused(BoxRefusal),
 }
 
-// A byte as a wider number.
-fn wide(x: u8) -> u32
-    ensures { (result ≡ x) × (result < 256) }
-{
-    x as u32
-}
-
 // The 4 bytes at `at`, the first the highest.
 fn be32_there(s: &[u8], at: usize) -> u32
     requires { at + 4 ≤ length s.now }
     ensures { result ≡ be32 s.now at }
 {
-    let a = wide(s[at]);
-    let b = wide(s[at + 1]);
-    let c = wide(s[at + 2]);
-    let d = wide(s[at + 3]);
-    ((a * 256 + b) * 256 + c) * 256 + d
+    u32::from_be_bytes([s[at], s[at + 1], s[at + 2], s[at + 3]])
 }
 
 // The byte `k` behind `at`; 0 if it is missing.
-fn byte_behind(s: &[u8], at: usize, k: usize) -> u32
-    ensures { (result ≡ get_or s.now (at + k) 0) × (result < 256) }
+fn byte_behind(s: &[u8], at: usize, k: usize) -> u8
+    ensures { result ≡ get_or s.now (at + k) 0 }
 {
-    if s.len() <= at {
-        return 0;
-    }
-    if s.len() - at <= k {
-        return 0;
-    }
-    wide(s[at + k])
+    let behind = s.get(at..).unwrap_or(&[]);
+    behind.get(k).copied().unwrap_or(0)
 }
 
 // The 4 bytes at `at`, the first the highest; a missing one counts as 0.
@@ -92,11 +76,12 @@ pub fn be32_at(s: &[u8], at: usize) -> u32
             return be32_there(s, at);
         }
     }
-    let a = byte_behind(s, at, 0);
-    let b = byte_behind(s, at, 1);
-    let c = byte_behind(s, at, 2);
-    let d = byte_behind(s, at, 3);
-    ((a * 256 + b) * 256 + c) * 256 + d
+    u32::from_be_bytes([
+        byte_behind(s, at, 0),
+        byte_behind(s, at, 1),
+        byte_behind(s, at, 2),
+        byte_behind(s, at, 3),
+    ])
 }
 
 // The 8 bytes at `at`, the first the highest.
@@ -104,9 +89,7 @@ fn be64_at(s: &[u8], at: usize) -> u64
     requires { at + 8 ≤ length s.now }
     ensures { result ≡ be64 s.now at }
 {
-    let high = be32_there(s, at) as u64;
-    let low = be32_there(s, at + 4) as u64;
-    high * 0x1_0000_0000 + low
+    u64::from(be32_there(s, at)) << 32 | u64::from(be32_there(s, at + 4))
 }
 
 // A header whose size is 1: a 64-bit size behind the type.

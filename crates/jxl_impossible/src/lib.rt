@@ -10,55 +10,24 @@ use jxl_record::{BoxParser, DetectState, JxlpIndexState};
 pub fn over_index(jxlp: JxlpIndexState) -> bool
     ensures { result ≡ over_index jxlp }
 {
-    match jxlp {
-        JxlpIndexState::Jxlp(i) => 0x8000_0000 <= i,
-        JxlpIndexState::Initial => false,
-        JxlpIndexState::SingleJxlc => false,
-        JxlpIndexState::JxlpFinished => false,
-    }
+    matches!(jxlp, JxlpIndexState::Jxlp(i) if 0x8000_0000 <= i)
 }
 
 // Whether no `jxlp` is open, or its awaited index is above 2^31.
 fn no_index(jxlp: JxlpIndexState) -> bool
     ensures { result ≡ no_index jxlp }
 {
-    match jxlp {
-        JxlpIndexState::Jxlp(i) => 0x8000_0000 < i,
-        JxlpIndexState::Initial => true,
-        JxlpIndexState::SingleJxlc => true,
-        JxlpIndexState::JxlpFinished => true,
-    }
+    !matches!(jxlp, JxlpIndexState::Jxlp(i) if i <= 0x8000_0000)
 }
 
 // Whether no file leads to this record.
 pub fn is_impossible(p: BoxParser) -> bool
     ensures { result ≡ impossible p }
 {
-    let state = p.state;
-    let jxlp = p.jxlp;
-    match state {
-        DetectState::WaitingJxlpIndex(left) => { if no_index(jxlp) { true } else { left.under(4) } }
-        DetectState::WaitingInnerType(left) => {
-            if over_index(jxlp) {
-                true
-            } else {
-                left.under(4)
-            }
-        }
-        DetectState::Refused {
-            kind: _,
-            refusal: _,
-        } => false,
-        DetectState::WaitingSignature => over_index(jxlp),
-        DetectState::WaitingBoxHeader => over_index(jxlp),
-        DetectState::InAuxBox {
-            ty: _,
-            bytes_left: _,
-        } => over_index(jxlp),
-        DetectState::InCodestream {
-            kind: _,
-            bytes_left: _,
-            pending_no_more_aux_box: _,
-        } => over_index(jxlp),
+    match p.state {
+        DetectState::WaitingJxlpIndex(left) => no_index(p.jxlp) || left.under(4),
+        DetectState::WaitingInnerType(left) => over_index(p.jxlp) || left.under(4),
+        DetectState::Refused { .. } => false,
+        _ => over_index(p.jxlp),
     }
 }

@@ -7,35 +7,24 @@ ghost use Rattle.jxl_parts.specs.Joined as Spec;
 use jxl_events::ParseEvent;
 
 // Whether `n` bytes at `a` end where `b` is.
-fn ends_at(a: usize, n: usize, b: usize) -> bool
+pub fn ends_at(a: usize, n: usize, b: usize) -> bool
     ensures { result ≡ eqb (a + n) b }
 {
-    if b < a {
-        return false;
-    }
-    b - a == n
+    b.checked_sub(a) == Some(n)
 }
 
 // Whether `event` is a part of a codestream that starts behind `n` bytes at `a`.
 fn code_at(a: usize, n: usize, event: ParseEvent) -> bool
     ensures { result ≡ Spec.code_at (a + n) event }
 {
-    match event {
-        ParseEvent::Codestream { at, len: _ } => ends_at(a, n, at),
-        _ => false,
-    }
+    matches!(event, ParseEvent::Codestream { at, .. } if ends_at(a, n, at))
 }
 
 // Whether `event` is a part of a side box of type `t` that starts behind `n` bytes at `a`.
 fn aux_at(t: u32, a: usize, n: usize, event: ParseEvent) -> bool
     ensures { result ≡ Spec.aux_at t (a + n) event }
 {
-    match event {
-        ParseEvent::AuxBoxData { ty, at, len: _ } => {
-            if t == ty { ends_at(a, n, at) } else { false }
-        }
-        _ => false,
-    }
+    matches!(event, ParseEvent::AuxBoxData { ty, at, .. } if t == ty && ends_at(a, n, at))
 }
 
 // Whether the two are parts of one payload, the second where the first ends.
@@ -54,11 +43,11 @@ pub fn reaching(total: u64, event: ParseEvent) -> ParseEvent
     ensures { result ≡ Spec.reaching total event }
 {
     match event {
-        ParseEvent::Codestream { at, len: _ } => ParseEvent::Codestream {
+        ParseEvent::Codestream { at, .. } => ParseEvent::Codestream {
             at,
             len: less(total, at),
         },
-        ParseEvent::AuxBoxData { ty, at, len: _ } => ParseEvent::AuxBoxData {
+        ParseEvent::AuxBoxData { ty, at, .. } => ParseEvent::AuxBoxData {
             ty,
             at,
             len: less(total, at),
@@ -71,8 +60,5 @@ pub fn reaching(total: u64, event: ParseEvent) -> ParseEvent
 fn less(total: u64, at: usize) -> usize
     ensures { result ≡ total - at }
 {
-    if (total as usize) < at {
-        return 0;
-    }
-    total as usize - at
+    (total as usize).saturating_sub(at)
 }

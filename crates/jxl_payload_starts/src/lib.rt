@@ -1,24 +1,15 @@
-// One step at the index that a `jxlp` payload starts with, after the Rust's container/parse.rs, and whether the 4 bytes that a payload
-// starts with are there. The input is lent whole, and the payload starts `at` bytes on.
+// One step at the index that a `jxlp` payload starts with, after the Rust's container/parse.rs.
 #![tactic(auto)]
 
-ghost use Rattle.std.specs.Prelude.{◌≡◌, ◌-◌, ltb, length, drop};
+ghost use Rattle.std.specs.Prelude.{◌≡◌, drop};
 ghost use Rattle.jxl_grammar.specs.Naming.{numbered};
 ghost use Rattle.jxl_grammar.specs.Step as Spec;
 ghost use Rattle.jxl_payloads.specs.Told.{told};
 
 use jxl_codestream::code_step;
-use jxl_headers::{BytesLeft, box_header};
-use jxl_payloads::{BoxResult, refuse};
+use jxl_payloads::{BoxResult, Payload, refuse};
 use jxl_record::{BitstreamKind, BoxParser, DetectState, JxlpIndexState};
 use jxl_refusals::BoxRefusal;
-
-// Whether fewer than 4 bytes of the input stand behind its first `at`. The same tests as `be32_at` makes, so it makes none behind them.
-pub fn is_short(s: &[u8], at: usize) -> bool
-    ensures { result ≡ ltb (length s.now - at) 4 }
-{
-    if s.len() < 4 { true } else { s.len() - 4 < at }
-}
 
 // The row of `jxlp` boxes behind index `i`: bit 31 marks the last.
 fn row(word: u32, i: u32) -> JxlpIndexState
@@ -31,27 +22,32 @@ fn row(word: u32, i: u32) -> JxlpIndexState
     }
 }
 
-// A `jxlp` payload at `at`, whose index must be `i`.
-pub fn index_step(i: u32, left: BytesLeft, s: &[u8], at: usize) -> BoxResult
-    ensures { told result ≡ numbered (Spec.ahead at (Spec.index_step i left (drop at s.now))) }
+// A `jxlp` payload, whose index must be `i`.
+#[tactic(auto, using(jxl_grammar::proofs::Step::far_index_wants, jxl_grammar::proofs::Step::far_index_right, jxl_grammar::proofs::Step::far_index_wrong))]
+pub fn index_step(i: u32, payload: Payload<'_>) -> BoxResult
+    ensures { told result ≡ numbered (Spec.ahead payload.entry.at (Spec.index_step i payload.entry.left (drop payload.entry.at payload.entry.input.now))) }
 {
+    let Payload { left, input, at } = payload;
     let waiting = BoxParser::at(DetectState::WaitingJxlpIndex(left), JxlpIndexState::Jxlp(i));
-    if is_short(s, at) {
+    if payload.is_short() {
         return BoxResult::Want {
             next: waiting,
             consumed: at,
         };
     }
-    let word = box_header::be32_at(s, at);
+    let word = payload.word();
     let found = word % 0x8000_0000;
     if found == i {
+        let behind = Payload {
+            left: left.less(4),
+            input,
+            at: at + 4,
+        };
         return code_step(
             row(word, i),
             BitstreamKind::Container,
-            left.less(4),
             left.to_end(),
-            s,
-            at + 4,
+            behind,
         );
     }
     let refusal = BoxRefusal::WrongIndex {

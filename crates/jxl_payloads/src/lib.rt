@@ -1,7 +1,8 @@
 // What a step answers, after the Rust's container/parse.rs; a refusal; and one step inside a side box.
 #![tactic(auto)]
 
-ghost use Rattle.std.specs.Prelude.{◌≡◌, min};
+ghost use Rattle.std.specs.Prelude.{◌≡◌, ◌-◌, ltb, length};
+ghost use Rattle.jxl_headers.specs.Bytes.{be32};
 ghost use Rattle.jxl_events.specs.declared.ParseEvent.TheVariants as Event;
 ghost use Rattle.jxl_record.specs.Record.{at};
 ghost use Rattle.jxl_record.specs.declared.DetectState.TheVariants as State;
@@ -10,12 +11,12 @@ ghost use Rattle.jxl_grammar.specs.Step as Spec;
 ghost use Rattle.jxl_payloads.specs.Told.{told};
 
 use jxl_events::ParseEvent;
-use jxl_headers::BytesLeft;
+use jxl_headers::{BytesLeft, box_header};
 use jxl_record::{BoxParser, DetectState, JxlpIndexState};
 use jxl_refusals::BoxRefusal;
 
 // A step's answer. The next record and the bytes consumed come first in every case, so that the compiler copies no padding.
-#[derive(Clone, Copy)]
+#[derive(Clone, Copy, Debug, PartialEq, Eq)]
 pub enum BoxResult {
     Shown {
         next: BoxParser,
@@ -31,6 +32,30 @@ pub enum BoxResult {
         consumed: usize,
         refusal: BoxRefusal,
     },
+}
+
+// A payload where a step meets it: how far it reaches, the input, lent whole, and where in the input it starts.
+#[derive(Clone, Copy)]
+pub struct Payload<'a> {
+    pub left: BytesLeft,
+    pub input: &'a [u8],
+    pub at: usize,
+}
+
+impl<'a> Payload<'a> {
+    // Whether fewer than 4 bytes of the input stand behind its first `at`. The same tests as `be32_at` makes, so it makes none behind them.
+    pub fn is_short(self) -> bool
+        ensures { result ≡ ltb (length self.entry.input.now - self.entry.at) 4 }
+    {
+        self.input.len() < 4 || self.input.len() - 4 < self.at
+    }
+
+    // The 4 bytes that it starts with, the first the highest; a missing one counts as 0.
+    pub fn word(self) -> u32
+        ensures { result ≡ be32 self.entry.input.now self.entry.at }
+    {
+        box_header::be32_at(self.input, self.at)
+    }
 }
 
 // A refusal: the parser is refused from now on, and its kind stays what it was.
@@ -68,24 +93,15 @@ pub fn aux_step(jxlp: JxlpIndexState, ty: u32, left: BytesLeft, n: usize) -> Box
     ensures { told result ≡ numbered (Spec.aux_part jxlp ty left n) }
 {
     match left {
-        BytesLeft::ToEnd => return aux_part(jxlp, ty, BytesLeft::ToEnd, n),
+        BytesLeft::ToEnd => aux_part(jxlp, ty, BytesLeft::ToEnd, n),
+        BytesLeft::Bytes(0) => BoxResult::Shown {
+            event: ParseEvent::AuxBoxEnd { ty },
+            next: BoxParser::at(DetectState::WaitingBoxHeader, jxlp),
+            consumed: 0,
+        },
         BytesLeft::Bytes(m) => {
-            if m == 0 {
-                return BoxResult::Shown {
-                    event: ParseEvent::AuxBoxEnd { ty },
-                    next: BoxParser::at(DetectState::WaitingBoxHeader, jxlp),
-                    consumed: 0,
-                };
-            }
-            let len = least(m, n);
-            return aux_part(jxlp, ty, BytesLeft::Bytes(m - len as u64), len);
+            let len = m.min(n as u64);
+            aux_part(jxlp, ty, BytesLeft::Bytes(m - len), len as usize)
         }
     }
-}
-
-// The smaller of the two.
-fn least(m: u64, n: usize) -> usize
-    ensures { result ≡ min m n }
-{
-    if m <= n as u64 { m as usize } else { n }
 }

@@ -8,11 +8,7 @@ ghost use Rattle.jxl_queue.specs.Queue.{saturated, most_events};
 pub fn saturating_sum(a: usize, b: usize) -> usize
     ensures { result ≡ saturated a b }
 {
-    if a <= 0xffff_ffff_ffff_ffff - b {
-        a + b
-    } else {
-        0xffff_ffff_ffff_ffff
-    }
+    a.saturating_add(b)
 }
 
 // An upper bound on the events that `n` bytes in `k` packets, one at least, and the end call give, for sizing a queue; it saturates at
@@ -20,5 +16,5 @@ pub fn saturating_sum(a: usize, b: usize) -> usize
 pub fn most_events(n: u64, k: u64) -> u64
     ensures { result ≡ most_events n k }
 {
-    saturating_sum((n / 3 + 3) as usize, k as usize) as u64
+    (n / 3 + 3).saturating_add(k)
 }

@@ -5,7 +5,8 @@ ghost use Rattle.std.specs.Prelude.{◌≡◌};
 ghost use Rattle.jxl_reach.specs.Reach.{less, to_end, under};
 
 // To the end of the file, or so many bytes more.
-#[derive(Clone, Copy)]
+// Not an Option: ToEnd says what a None would leave to a comment, and the tests on it are its methods.
+#[derive(Clone, Copy, Debug, PartialEq, Eq)]
 pub enum BytesLeft {
     ToEnd,
     Bytes(u64),
@@ -28,13 +29,7 @@ impl BytesLeft {
     {
         match self {
             BytesLeft::ToEnd => BytesLeft::ToEnd,
-            BytesLeft::Bytes(m) => {
-                if m < n {
-                    BytesLeft::Bytes(0)
-                } else {
-                    BytesLeft::Bytes(m - n)
-                }
-            }
+            BytesLeft::Bytes(m) => BytesLeft::Bytes(m.saturating_sub(n)),
         }
     }
 
@@ -42,9 +37,6 @@ impl BytesLeft {
     pub fn to_end(self) -> bool
         ensures { result ≡ to_end self }
     {
-        match self {
-            BytesLeft::ToEnd => true,
-            BytesLeft::Bytes(_) => false,
-        }
+        self == BytesLeft::ToEnd
     }
 }

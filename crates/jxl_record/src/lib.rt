@@ -8,7 +8,7 @@ use jxl_headers::BytesLeft;
 use jxl_refusals::BoxRefusal;
 
 // Structure of the decoded bitstream.
-#[derive(Clone, Copy)]
+#[derive(Clone, Copy, Debug, PartialEq, Eq)]
 pub enum BitstreamKind {
     // Not yet told.
     Unknown,
@@ -21,7 +21,7 @@ pub enum BitstreamKind {
 }
 
 // The `jxlc` and `jxlp` boxes so far: none, one `jxlc`, a row of `jxlp` with the index of the newest, a whole row.
-#[derive(Clone, Copy)]
+#[derive(Clone, Copy, Debug, PartialEq, Eq)]
 pub enum JxlpIndexState {
     Initial,
     SingleJxlc,
@@ -30,7 +30,7 @@ pub enum JxlpIndexState {
 }
 
 // What the parser waits for, or is inside of.
-#[derive(Clone, Copy)]
+#[derive(Clone, Copy, Debug, PartialEq, Eq)]
 pub enum DetectState {
     WaitingSignature,
     WaitingBoxHeader,
@@ -55,7 +55,7 @@ pub enum DetectState {
 }
 
 // The parser's whole state.
-#[derive(Clone, Copy)]
+#[derive(Clone, Copy, Debug, PartialEq, Eq)]
 pub struct BoxParser {
     pub state: DetectState,
     pub jxlp: JxlpIndexState,
@@ -83,22 +83,10 @@ impl BoxParser {
     pub fn kind(self) -> BitstreamKind
         ensures { result ≡ kind_of self }
     {
-        let state = self.state;
-        match state {
+        match self.state {
             DetectState::WaitingSignature => BitstreamKind::Unknown,
-            DetectState::WaitingBoxHeader => BitstreamKind::Container,
-            DetectState::WaitingJxlpIndex(_) => BitstreamKind::Container,
-            DetectState::WaitingInnerType(_) => BitstreamKind::Container,
-            DetectState::InAuxBox {
-                ty: _,
-                bytes_left: _,
-            } => BitstreamKind::Container,
-            DetectState::InCodestream {
-                kind,
-                bytes_left: _,
-                pending_no_more_aux_box: _,
-            } => kind,
-            DetectState::Refused { kind, refusal: _ } => kind,
+            DetectState::InCodestream { kind, .. } | DetectState::Refused { kind, .. } => kind,
+            _ => BitstreamKind::Container,
         }
     }
 }

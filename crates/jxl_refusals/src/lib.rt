@@ -5,7 +5,7 @@ ghost use Rattle.std.specs.Prelude.{◌≡◌};
 ghost use Rattle.jxl_refusals.specs.Refusals.{number_of, why};
 
 // The rule that broke. The number of each, and the values that it tells, are `why` of specs/Refusals.antt.
-#[derive(Clone, Copy)]
+#[derive(Clone, Copy, Debug, PartialEq, Eq)]
 pub enum BoxRefusal {
     // A box size of 2 to 7.
     ShortSize,
@@ -52,10 +52,7 @@ impl BoxRefusal {
             BoxRefusal::JxlpTooSmall => 14,
             BoxRefusal::JxlpAfterJxlc => 15,
             BoxRefusal::JxlpAfterLast => 16,
-            BoxRefusal::WrongIndex {
-                found: _,
-                expected: _,
-            } => 17,
+            BoxRefusal::WrongIndex { .. } => 17,
             BoxRefusal::BrobTooSmall => 18,
             BoxRefusal::ImpossibleRecord => 19,
             BoxRefusal::ValidationFailed => 2,

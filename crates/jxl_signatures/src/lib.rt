@@ -2,7 +2,6 @@
 #![tactic(auto)]
 
 ghost use Rattle.std.specs.Prelude.{◌≡◌};
-ghost use Rattle.jxl_signatures.specs.Bytes.{starts};
 ghost use Rattle.jxl_signatures.specs.Signature.{signature_of};
 
 // JPEG XL bare codestream signature, `ff 0a`.
@@ -14,7 +13,7 @@ pub const CONTAINER_SIG: [u8; 12] = [
 ];
 
 // What the first bytes of an input are.
-#[derive(Clone, Copy)]
+#[derive(Clone, Copy, Debug, PartialEq, Eq)]
 pub enum Signature {
     Bare,
     Container,
@@ -22,40 +21,21 @@ pub enum Signature {
     Neither,
 }
 
-// Whether every byte of `prefix` stands at its place in `s`.
-fn starts_with(s: &[u8], prefix: &[u8]) -> bool
-    ensures { result ≡ starts prefix.now s.now }
-{
-    if s.len() < prefix.len() {
-        return false;
-    }
-    let mut i = 0;
-    while i < prefix.len() {
-        if s[i] != prefix[i] {
-            return false;
-        }
-        i += 1;
-    }
-    true
-}
-
 // Which signature `s` starts with.
-#[tactic(auto, unfolding(crate::specs::Signature::signature_of))]
+#[tactic(auto, unfolding(crate::specs::Signature::signature_of), using(crate::proofs::Bytes::starts_as_std))]
 pub fn which_signature(s: &[u8]) -> Signature
     ensures { result ≡ signature_of s.now }
 {
-    let bare = CODESTREAM_SIG;
-    let container = CONTAINER_SIG;
-    if starts_with(s, &bare) {
+    if s.starts_with(&CODESTREAM_SIG) {
         return Signature::Bare;
     }
-    if starts_with(s, &container) {
+    if s.starts_with(&CONTAINER_SIG) {
         return Signature::Container;
     }
-    if starts_with(&bare, s) {
+    if CODESTREAM_SIG.starts_with(s) {
         return Signature::TooShort;
     }
-    if starts_with(&container, s) {
+    if CONTAINER_SIG.starts_with(s) {
         return Signature::TooShort;
     }
     Signature::Neither

@@ -8,11 +8,5 @@ ghost use Rattle.jxl_slices.specs.Part.{between};
 pub fn part(s: &[u8], from: usize, upto: usize) -> &[u8]
     ensures { result.now ≡ between s.now from upto }
 {
-    if upto < from {
-        return &s[0..0];
-    }
-    if s.len() < upto {
-        return &s[0..0];
-    }
-    &s[from..upto]
+    s.get(from..upto).unwrap_or(&[])
 }
