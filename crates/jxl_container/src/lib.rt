@@ -7,7 +7,7 @@ ghost use Rattle.jxl_totals.specs.Naming.{numbered};
 ghost use Rattle.jxl_totals.specs.Step as Spec;
 ghost use Rattle.jxl_counts.specs.Told.{told};
 
-use jxl_counts::{after, limited, refused};
+use jxl_counts::{limited, refused};
 use jxl_marks::{at_header, looked_at, newest, visible};
 use jxl_payloads::BoxResult;
 
@@ -16,7 +16,7 @@ pub use jxl_counts::StepResult;
 pub use jxl_end::{EndResult, end};
 pub use jxl_events::{FileEvent, ParseEvent, payload};
 pub use jxl_headers::BytesLeft;
-pub use jxl_joiner::{Added, Joiner, MaybeEvent};
+pub use jxl_joiner::{Added, Joiner};
 pub use jxl_queue::most_events;
 pub use jxl_record::{BitstreamKind, BoxParser, DetectState, JxlpIndexState};
 pub use jxl_refusals::BoxRefusal;
@@ -36,39 +36,41 @@ pub fn step(parser: ContainerParser, input: &[u8]) -> StepResult
             event,
             next,
             consumed,
-        } => StepResult::Shown {
-            next: after(
-                next,
-                total + consumed as u64,
-                newest(starts, consumed, total, header),
-            ),
-            consumed,
-            event: FileEvent {
-                event,
-                total: total + consumed as u64,
-            },
-        },
-        BoxResult::Want { next, consumed } => {
-            let behind = total + consumed as u64;
-            let h = newest(starts, consumed, total, header);
-            if n == input.len() {
-                return StepResult::Want {
-                    next: after(next, behind, h),
-                    consumed,
-                };
+        } => {
+            let header = newest(starts, consumed, total, header);
+            let total = total + consumed as u64;
+            StepResult::Shown {
+                next: ContainerParser {
+                    boxes: next,
+                    total,
+                    header,
+                },
+                consumed,
+                event: FileEvent { event, total },
             }
-            limited(next, consumed, behind, h)
+        }
+        BoxResult::Want { next, consumed } => {
+            let next = ContainerParser {
+                boxes: next,
+                total: total + consumed as u64,
+                header: newest(starts, consumed, total, header),
+            };
+            if n == input.len() {
+                return StepResult::Want { next, consumed };
+            }
+            limited(next, consumed)
         }
         BoxResult::Refused {
             next,
             consumed,
             refusal,
-        } => refused(
-            refusal,
-            next,
-            consumed,
-            total + consumed as u64,
-            looked_at(starts, total, header),
-        ),
+        } => {
+            let next = ContainerParser {
+                boxes: next,
+                total: total + consumed as u64,
+                header: looked_at(starts, total, header),
+            };
+            refused(refusal, next, consumed)
+        }
     }
 }

@@ -1,5 +1,5 @@
-// What a step leaves, with its count: the record behind it, and a refusal with its total and its place. One small function for each;
-// jxl_container's step puts them together.
+// What a step leaves, with its count: a refusal with its total and its place, by the record behind it. jxl_container's step puts it
+// together.
 #![tactic(auto)]
 
 ghost use Rattle.std.specs.Prelude.{◌≡◌};
@@ -10,7 +10,6 @@ ghost use Rattle.jxl_counts.specs.Told.{told};
 
 use jxl_events::FileEvent;
 use jxl_marks::{is_closed, place};
-use jxl_record::{BoxParser, DetectState};
 use jxl_refusals::BoxRefusal;
 use jxl_totals::{ContainerParser, FileRefusal};
 
@@ -38,58 +37,34 @@ pub enum StepResult {
     },
 }
 
-// A record of these three.
-pub fn after(boxes: BoxParser, total: u64, header: u64) -> ContainerParser
-    ensures { result ≡ Spec.counted boxes total header }
-{
-    ContainerParser {
-        boxes,
-        total,
-        header,
-    }
-}
-
-// A refusal, behind `total` bytes; or Closed, of a parser that was ended. The test has a value: with a branch that returns a step on small
-// boxes took a seventh more instructions.
-pub fn refused(
-    rule: BoxRefusal,
-    boxes: BoxParser,
-    consumed: usize,
-    total: u64,
-    header: u64,
-) -> StepResult
-    ensures { told result ≡ numbered (Spec.refusing rule (Spec.counted boxes total header) consumed) }
+// A refusal, by the record that it leaves; or Closed, of a parser that was ended. The test has a value: with a branch that returns a step on
+// small boxes took a seventh more instructions.
+pub fn refused(rule: BoxRefusal, next: ContainerParser, consumed: usize) -> StepResult
+    ensures { told result ≡ numbered (Spec.refusing rule next consumed) }
 {
     if is_closed(rule) {
-        StepResult::Closed {
-            next: after(boxes, total, header),
-            consumed,
-        }
+        StepResult::Closed { next, consumed }
     } else {
+        let total = next.total;
         StepResult::Refused {
-            next: after(boxes, total, header),
+            next,
             consumed,
             refusal: FileRefusal {
                 rule,
                 total,
-                place: place(rule, total, header),
+                place: place(rule, total, next.header),
             },
         }
     }
 }
 
-// More is wanted although bytes lie beyond the limit.
-pub fn limited(next: BoxParser, consumed: usize, total: u64, header: u64) -> StepResult
-    ensures { told result ≡ numbered (Spec.refusing BoxRefusal.StreamLimit (Spec.counted (Boxes.refused BoxRefusal.StreamLimit next) total header) consumed) }
+// More is wanted, with this record, although bytes lie beyond the limit.
+pub fn limited(next: ContainerParser, consumed: usize) -> StepResult
+    ensures { told result ≡ numbered (Spec.refusing BoxRefusal.StreamLimit (Spec.counted (Boxes.refused BoxRefusal.StreamLimit next.boxes) next.total next.header) consumed) }
 {
-    let kind = next.kind();
-    let jxlp = next.jxlp;
-    let boxes = BoxParser::at(
-        DetectState::Refused {
-            kind,
-            refusal: BoxRefusal::StreamLimit,
-        },
-        jxlp,
-    );
-    refused(BoxRefusal::StreamLimit, boxes, consumed, total, header)
+    refused(
+        BoxRefusal::StreamLimit,
+        next.stopped(BoxRefusal::StreamLimit),
+        consumed,
+    )
 }

@@ -1,3 +1,2 @@
 mod Taking
 pub mod Unique
-pub mod Ruled

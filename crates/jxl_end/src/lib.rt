@@ -8,44 +8,17 @@ ghost use Rattle.jxl_owed.specs.Told.{told_close};
 ghost use Rattle.jxl_end.specs.Told.{told_end};
 
 use jxl_events::FileEvent;
-use jxl_joiner::MaybeEvent;
 use jxl_marks::{is_closed, place};
 use jxl_owed::{Close, close_of};
-use jxl_record::{BoxParser, DetectState};
+use jxl_record::DetectState;
 use jxl_refusals::BoxRefusal;
 use jxl_totals::{ContainerParser, FileRefusal};
 
-// An end call's answer.
+// An end call's answer: DONE, with the event still owed, if any; or a refusal. Either way with the record that the call leaves.
 #[derive(Clone, Copy)]
-pub enum EndResult {
-    Done {
-        next: ContainerParser,
-        owed: MaybeEvent,
-    },
-    Refused {
-        next: ContainerParser,
-        refusal: FileRefusal,
-    },
-}
-
-// The record that takes no more for this cause; kind, row, total and header stay.
-fn stopped(rule: BoxRefusal, p: ContainerParser) -> ContainerParser
-    ensures { result ≡ Spec.stopped rule p }
-{
-    let boxes = p.boxes;
-    let kind = boxes.kind();
-    let jxlp = boxes.jxlp;
-    ContainerParser {
-        boxes: BoxParser::at(
-            DetectState::Refused {
-                kind,
-                refusal: rule,
-            },
-            jxlp,
-        ),
-        total: p.total,
-        header: p.header,
-    }
+pub struct EndResult {
+    pub next: ContainerParser,
+    pub answer: Result<Option<FileEvent>, FileRefusal>,
 }
 
 // The answer by what the end comes to: CutShort names the total, and stays; an end that is not refused closes the parser.
@@ -54,21 +27,21 @@ fn closing(p: ContainerParser, close: Close) -> EndResult
 {
     let total = p.total;
     match close {
-        Close::Missing => EndResult::Refused {
-            next: stopped(BoxRefusal::CutShort, p),
-            refusal: FileRefusal {
+        Close::Missing => EndResult {
+            next: p.stopped(BoxRefusal::CutShort),
+            answer: Err(FileRefusal {
                 rule: BoxRefusal::CutShort,
                 total,
                 place: total,
-            },
+            }),
         },
-        Close::Owes(event) => EndResult::Done {
-            next: stopped(BoxRefusal::Closed, p),
-            owed: MaybeEvent::Some(FileEvent { event, total }),
+        Close::Owes(event) => EndResult {
+            next: p.stopped(BoxRefusal::Closed),
+            answer: Ok(Some(FileEvent { event, total })),
         },
-        Close::Nothing => EndResult::Done {
-            next: stopped(BoxRefusal::Closed, p),
-            owed: MaybeEvent::None,
+        Close::Nothing => EndResult {
+            next: p.stopped(BoxRefusal::Closed),
+            answer: Ok(None),
         },
     }
 }
@@ -77,20 +50,20 @@ fn closing(p: ContainerParser, close: Close) -> EndResult
 fn again(rule: BoxRefusal, p: ContainerParser) -> EndResult
     ensures { told_end result ≡ Spec.numbered_end (Spec.again rule p) }
 {
-    let total = p.total;
     if is_closed(rule) {
-        return EndResult::Done {
+        return EndResult {
             next: p,
-            owed: MaybeEvent::None,
+            answer: Ok(None),
         };
     }
-    EndResult::Refused {
+    let total = p.total;
+    EndResult {
         next: p,
-        refusal: FileRefusal {
+        answer: Err(FileRefusal {
             rule,
             total,
             place: place(rule, total, p.header),
-        },
+        }),
     }
 }
 
@@ -98,10 +71,9 @@ fn again(rule: BoxRefusal, p: ContainerParser) -> EndResult
 fn end_in(state: DetectState, p: ContainerParser, unread: &[u8]) -> EndResult
     ensures { told_end result ≡ Spec.numbered_end (Spec.end_in state p unread.now) }
 {
-    let boxes = p.boxes;
     match state {
         DetectState::Refused { kind: _, refusal } => again(refusal, p),
-        _ => closing(p, close_of(boxes, unread)),
+        _ => closing(p, close_of(p.boxes, unread)),
     }
 }
 

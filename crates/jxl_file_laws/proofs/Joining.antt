@@ -2,6 +2,7 @@
 use mathlib.Core.Path.{◌≡◌, refl, sym, ap, ◌∙◌}
 use mathlib.Core.Bool.{Bool, true, false}
 use mathlib.Core.List.{List, [], ◌∷◌, ◌++◌}
+use Rattle.std.specs.Prelude.{Some}
 use Rattle.jxl_headers.specs.Bytes.{if}
 use Rattle.jxl_events.specs.declared.ParseEvent.{ParseEvent}
 use Rattle.jxl_parts.specs.Joined.{joins}
@@ -19,7 +20,6 @@ use Rattle.jxl_files.proofs.Counts.{payload_places}
 use Rattle.jxl_files.proofs.Theorems.{cut_file}
 use Rattle.jxl_grammar.specs.Grammar.{Listing}
 use Rattle.jxl_file_laws.specs.Theorems.{JoinerJoins, JoinerListsTheFile}
-use Rattle.jxl_joiner.specs.declared.MaybeEvent.TheVariants.{Some}
 
 -- an event that the next does not join stays apart from it, however long that one grows
 keep_apart : (h e : FileEvent) (es : List FileEvent) → joins h.event e.event ≡ false → before h (before e es) ≡ h ∷ before e es

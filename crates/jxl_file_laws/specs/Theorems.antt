@@ -1,6 +1,6 @@
 -- The kind that is told, and the joiner, of every file cut in any packets. Each statement is a type, which proofs/ proves under the same
 -- name in small letters.
-use Rattle.std.specs.Prelude.{◌≡◌, List, [], ◌∷◌, ℕ}
+use Rattle.std.specs.Prelude.{None, ◌≡◌, List, [], ◌∷◌, ℕ}
 use Rattle.jxl_record.specs.declared.BitstreamKind.{BitstreamKind}
 use Rattle.jxl_record.specs.declared.BitstreamKind.TheVariants as K
 use Rattle.jxl_events.specs.Total.{EndsAt, without_totals}
@@ -8,7 +8,6 @@ use Rattle.jxl_events.specs.declared.ParseEvent.{ParseEvent}
 use Rattle.jxl_events.specs.declared.ParseEvent.TheVariants as E
 use Rattle.jxl_events.specs.declared.FileEvent.{FileEvent}
 use Rattle.jxl_joiner.specs.Joiner.{run}
-use Rattle.jxl_joiner.specs.declared.MaybeEvent.TheVariants.{None}
 use Rattle.jxl_totals.specs.Step.{refuses, fresh, kind_of, step_of}
 use Rattle.jxl_files.specs.Files.{file}
 use Rattle.jxl_totals.specs.Feeding.{events, joined, feeding, bytes_of}

@@ -1,9 +1,8 @@
 -- One answer: each promise determines what its function gives; proofs/Unique.antt.
-use Rattle.std.specs.Prelude.{◌≡◌}
+use Rattle.std.specs.Prelude.{◌≡◌, None}
 use Rattle.jxl_base.specs.OneAnswer.{OneAnswer}
 use Rattle.jxl_events.specs.declared.FileEvent.{FileEvent}
 use Rattle.jxl_joiner.specs.Joiner.{adding}
-use Rattle.jxl_joiner.specs.declared.MaybeEvent.TheVariants.{None}
 use Rattle.jxl_joiner.specs.declared.Joiner.{Joiner}
 
 abbrev pub OneNew : Type 0

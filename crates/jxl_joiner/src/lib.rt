@@ -1,42 +1,33 @@
 // Joins the parts of a payload that cuts parted.
 #![tactic(auto)]
 
-ghost use Rattle.std.specs.Prelude.{◌≡◌};
+ghost use Rattle.std.specs.Prelude.{◌≡◌, None, Some};
 ghost use Rattle.jxl_joiner.specs.Joiner.{added, adding, putting};
 
 use jxl_events::FileEvent;
 use jxl_parts::{joins, reaching};
 
-// An event, or none.
-#[derive(Clone, Copy)]
-pub enum MaybeEvent {
-    None,
-    Some(FileEvent),
-}
-
 // Joins payload parts that lie end to end. It takes the parser's events one at a time, gives each its place in the file, and holds
-// the newest.
+// the newest, if any.
 #[derive(Clone, Copy)]
 pub struct Joiner {
-    pub held: MaybeEvent,
+    pub held: Option<FileEvent>,
 }
 
-// What adding an event hands back, and the joiner then.
+// What adding an event hands back, if anything, and the joiner then.
 #[derive(Clone, Copy)]
 pub struct Added {
-    pub out: MaybeEvent,
+    pub out: Option<FileEvent>,
     pub next: Joiner,
 }
 
 // What is handed back, and the event held from then on.
-fn holding(out: MaybeEvent, event: FileEvent) -> Added
-    ensures { result ≡ added out (MaybeEvent.Some event) }
+fn holding(out: Option<FileEvent>, event: FileEvent) -> Added
+    ensures { result ≡ added out (Some event) }
 {
     Added {
         out,
-        next: Joiner {
-            held: MaybeEvent::Some(event),
-        },
+        next: Joiner { held: Some(event) },
     }
 }
 
@@ -52,35 +43,32 @@ fn put(held: FileEvent, event: FileEvent) -> Added
             event: reaching(total, first),
             total,
         };
-        return holding(MaybeEvent::None, whole);
+        return holding(None, whole);
     }
-    holding(MaybeEvent::Some(held), event)
+    holding(Some(held), event)
 }
 
 impl Joiner {
     // A joiner that holds nothing.
     pub fn new() -> Self
-        ensures { result.held ≡ MaybeEvent.None }
+        ensures { result.held ≡ None }
     {
-        Joiner {
-            held: MaybeEvent::None,
-        }
+        Joiner { held: None }
     }
 
     // Adds an event; hands back the one held, if it is now known to be whole.
     pub fn add(self, event: FileEvent) -> Added
         ensures { result ≡ adding self.held event }
     {
-        let held = self.held;
         let placed = event.in_file();
-        match held {
-            MaybeEvent::None => return holding(MaybeEvent::None, placed),
-            MaybeEvent::Some(first) => return put(first, placed),
+        match self.held {
+            None => holding(None, placed),
+            Some(first) => put(first, placed),
         }
     }
 
-    // The event held, once no more will come.
-    pub fn finish(self) -> MaybeEvent
+    // The event held, if any, once no more will come.
+    pub fn finish(self) -> Option<FileEvent>
         ensures { result ≡ self.held }
     {
         self.held

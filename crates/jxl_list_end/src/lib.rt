@@ -5,8 +5,7 @@ ghost use Rattle.std.specs.Prelude.{◌≡◌};
 ghost use Rattle.jxl_endings.specs.End.{end_of};
 ghost use Rattle.jxl_list_rules.specs.Listed.{next_end};
 
-use jxl_container::{ContainerParser, EndResult};
-use jxl_joiner::MaybeEvent;
+use jxl_container::ContainerParser;
 use jxl_lines::StopWord;
 use jxl_list_rules::AfterStep;
 
@@ -15,27 +14,14 @@ use jxl_list_rules::AfterStep;
 pub fn next_at_end(parser: ContainerParser, unread: &[u8]) -> AfterStep
     ensures { result ≡ next_end (end_of parser unread.now) }
 {
-    match jxl_container::end(parser, unread) {
-        EndResult::Done { next, owed } => match owed {
-            MaybeEvent::None => AfterStep::Stopped {
-                stop: StopWord::Done,
-                parser: next,
-            },
-            MaybeEvent::Some(event) => {
-                let placed = event.in_file();
-                let event = placed.event;
-                AfterStep::Shown {
-                    event,
-                    parser: next,
-                }
-            }
-        },
-        EndResult::Refused { next, refusal } => {
-            let rule = refusal.rule;
-            AfterStep::Stopped {
-                stop: StopWord::refused(rule),
-                parser: next,
-            }
-        }
+    let ended = jxl_container::end(parser, unread);
+    let answer = match ended.answer {
+        Ok(Some(event)) => Ok(event.in_file().event),
+        Ok(None) => Err(StopWord::Done),
+        Err(refusal) => Err(StopWord::refused(refusal.rule)),
+    };
+    AfterStep {
+        parser: ended.next,
+        answer,
     }
 }

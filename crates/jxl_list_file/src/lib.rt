@@ -13,7 +13,6 @@ use jxl_lines::Line;
 use jxl_list_end::next_at_end;
 use jxl_list_rules::AfterStep;
 use jxl_listing::Put;
-use jxl_queue::saturating_sum;
 
 // What comes next where the parser stopped: what the end call says, made with the bytes behind those consumed, which the record counts.
 fn at_end(parser: ContainerParser, file: &[u8]) -> AfterStep
@@ -35,14 +34,10 @@ fn next(parser: ContainerParser, file: &[u8]) -> AfterStep
             next,
             consumed: _,
             event,
-        } => {
-            let placed = event.in_file();
-            let event = placed.event;
-            AfterStep::Shown {
-                event,
-                parser: next,
-            }
-        }
+        } => AfterStep {
+            parser: next,
+            answer: Ok(event.in_file().event),
+        },
         StepResult::Want { next, consumed: _ } => at_end(next, file),
         StepResult::Refused {
             next,
@@ -58,22 +53,17 @@ fn measure(file: &[u8]) -> usize
     ensures { result ≡ min (length (file_text file.now)) (2 ^ 64 - 1) }
 {
     let mut parser = ContainerParser::new();
-    let mut sum = 0;
+    let mut sum = 0usize;
     loop {
-        match next(parser, file) {
-            AfterStep::Shown {
-                event,
-                parser: then,
-            } => {
-                sum = saturating_sum(sum, jxl_lengths::line_length(Line::Shown(event)));
-                parser = then;
+        let then = next(parser, file);
+        match then.answer {
+            Ok(event) => {
+                sum = sum.saturating_add(jxl_lengths::line_length(Line::Shown(event)));
+                parser = then.parser;
             }
-            AfterStep::Stopped { stop, parser: last } => {
-                let consumed = last.total as usize;
-                return saturating_sum(
-                    sum,
-                    jxl_lengths::line_length(Line::Stopped { stop, consumed }),
-                );
+            Err(stop) => {
+                let consumed = then.parser.total as usize;
+                return sum.saturating_add(jxl_lengths::line_length(Line::Stopped { stop, consumed }));
             }
         }
     }
@@ -87,16 +77,14 @@ fn write(file: &[u8], out: &mut [u8]) -> usize
     let mut parser = ContainerParser::new();
     let mut written = 0;
     loop {
-        match next(parser, file) {
-            AfterStep::Shown {
-                event,
-                parser: then,
-            } => {
+        let then = next(parser, file);
+        match then.answer {
+            Ok(event) => {
                 written = put(out, written, Line::Shown(event));
-                parser = then;
+                parser = then.parser;
             }
-            AfterStep::Stopped { stop, parser: last } => {
-                let consumed = last.total as usize;
+            Err(stop) => {
+                let consumed = then.parser.total as usize;
                 return put(out, written, Line::Stopped { stop, consumed });
             }
         }

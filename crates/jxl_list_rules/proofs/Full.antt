@@ -5,6 +5,7 @@ use mathlib.Core.List.{List, [], ◌∷◌, append-nil}
 use Prim.Native.Nat.{ℕ, ◌+◌, ◌^◌, ◌<◌, ◌≤◌}
 use native.Mathlib.Omega.{arith}
 use lib.ListN.{length, drop, length-append}
+use Rattle.std.specs.Prelude.{Option, None, Some}
 use Rattle.jxl_headers.specs.Bytes.{if}
 use Rattle.jxl_events.specs.Total.{carrying, ending_at, in_file, EndsAt}
 use Rattle.jxl_events.specs.declared.ParseEvent.{ParseEvent}
@@ -13,8 +14,6 @@ use Rattle.jxl_events.specs.declared.FileEvent.{FileEvent}
 use Rattle.jxl_totals.specs.declared.ContainerParser.{ContainerParser}
 use Rattle.jxl_joiner.specs.Joiner.{added, adding, handed}
 use Rattle.jxl_parts.specs.Joined.{joins, reaching}
-use Rattle.jxl_joiner.specs.declared.MaybeEvent.{MaybeEvent}
-use Rattle.jxl_joiner.specs.declared.MaybeEvent.TheVariants.{None, Some}
 use Rattle.jxl_lines.specs.Lines.{text}
 use Rattle.jxl_lines.specs.declared.Line.TheVariants as L
 use Rattle.jxl_lines.proofs.Numbers.{decimal_most, type_length}
@@ -22,25 +21,24 @@ use Rattle.jxl_lines.proofs.Sizes.{most_bytes}
 use Rattle.jxl_list_rules.specs.Listed.{lines_of}
 use Rattle.jxl_list_rules.specs.Theorems.{FullMeansFull, HeldFits, TurnKeepsFit, TurnAdvances}
 use Rattle.jxl_list_rules.specs.Turned.{Turned, line_of, turn_of}
-use Rattle.jxl_list_rules.specs.declared.TurnEnd.TheVariants as TurnEnd
 use Rattle.jxl_list_rules.proofs.Text.{shown_counts, wants_counts, refuses_counts}
 use Rattle.jxl_list_rules.proofs.Goes.{Goes, puts, lacks, waits, ends, went}
 
 -- a joiner hands back what it held, or nothing
-handed_back : (b : Bool) (x : FileEvent) (a c : MaybeEvent) → length (lines_of (handed (if b (added None a) (added (Some x) c)).out)) ≤ length (lines_of (x ∷ []))
+handed_back : (b : Bool) (x : FileEvent) (a c : Option FileEvent) → length (lines_of (handed (if b (added None a) (added (Some x) c)).out)) ≤ length (lines_of (x ∷ []))
 handed_back true x a c = omega arith
 handed_back false x a c = omega arith
 
-line_held : (h : MaybeEvent) (e : FileEvent) → length (line_of h e) ≤ length (lines_of (handed h))
+line_held : (h : Option FileEvent) (e : FileEvent) → length (line_of h e) ≤ length (lines_of (handed h))
 line_held None e = omega arith
 line_held (Some x) e =
     handed_back (joins x.event (in_file e).event) x (Some (carrying (reaching e.total x.event) e.total)) (Some (in_file e))
 
 -- the lines put and the line of the event held are more than the room
 abbrev Filled : ℕ → Turned → Type 0
-Filled room t = t.end ≡ TurnEnd.Full → room < length t.lines + length (lines_of (handed t.held))
+Filled room t = t.stop ≡ None → room < length t.lines + length (lines_of (handed t.held))
 
-fills : {s : List ℕ} {room k : ℕ} {p : ContainerParser} {h : MaybeEvent} {t : Turned} → Goes s room p h k t → Filled room t
+fills : {s : List ℕ} {room k : ℕ} {p : ContainerParser} {h : Option FileEvent} {t : Turned} → Goes s room p h k t → Filled room t
 fills {room = room} {h = h} (puts {t = t} {e = e} st at fits so g) =
     subst (Filled room) (sym so) (λ full. omega (arith, fits, fills g full, length-append (line_of h e) t.lines))
 fills {room = room} {h = h} (lacks {e = e} st none so) = subst (Filled room) (sym so) (λ full. omega (arith, none, line_held h e))
@@ -72,7 +70,7 @@ reaching_fits total old (E.AuxBoxData t a n) (p, l) g = (omega arith, omega arit
 reaching_fits total old (E.AuxBoxEnd t) f g = (omega arith, omega arith)
 
 -- what a joiner holds fits
-adding_fits : (h : MaybeEvent) (e : FileEvent) → HeldFits h → Fits (in_file e) → e.total < 2 ^ 64 → HeldFits (adding h e).next.held
+adding_fits : (h : Option FileEvent) (e : FileEvent) → HeldFits h → Fits (in_file e) → e.total < 2 ^ 64 → HeldFits (adding h e).next.held
 adding_fits None e i f g = f
 adding_fits (Some x) e i f g = go (joins x.event (in_file e).event)
   where
@@ -85,7 +83,7 @@ abbrev KeepsFit : Turned → Type 0
 KeepsFit t = (t.parser.total < 2 ^ 64) × HeldFits t.held
 
 module _ (s : List ℕ) where
-  keeps : {room k : ℕ} {p : ContainerParser} {h : MaybeEvent} {t : Turned} → p.total < 2 ^ 64 → HeldFits h → Goes s room p h k t → KeepsFit t
+  keeps : {room k : ℕ} {p : ContainerParser} {h : Option FileEvent} {t : Turned} → p.total < 2 ^ 64 → HeldFits h → Goes s room p h k t → KeepsFit t
   keeps {k = k} {p = p} {h = h} f i (puts {c = c} {q = q} {e = e} st at fits so g) =
       let n = shown_counts p (drop k s) st in
       let few : c < 2 ^ 64 = omega (arith, n.within) in
@@ -116,7 +114,7 @@ fits_most (E.AuxBoxStart t false false) total f = simp length-append (omega (ari
 fits_most (E.AuxBoxData t a n) total (p, l) = simp length-append (omega (arith, type_length t, decimal_most a p, decimal_most n l))
 fits_most (E.AuxBoxEnd t) total f = simp length-append (omega (arith, type_length t))
 
-held_most : (h : MaybeEvent) → HeldFits h → length (lines_of (handed h)) ≤ 56
+held_most : (h : Option FileEvent) → HeldFits h → length (lines_of (handed h)) ≤ 56
 held_most None f = omega arith
 held_most (Some e) f = omega (arith, fits_most e.event e.total f, ap length (append-nil (text (L.Shown e.event))))
 

@@ -9,6 +9,8 @@ use lib.Dec.{leb, eqb}
 use lib.ListN.{length, drop}
 use lib.Seq.{drop-length, take_all}
 use borrow.Author.Tests.{lt-leb, le-ltb, eq-eqb, ltb-false, leb-true, eqb-true, eqb-false}
+use Rattle.std.specs.Prelude.{Option, None, Some}
+use Rattle.jxl_events.specs.declared.FileEvent.{FileEvent}
 use Rattle.jxl_headers.specs.Bytes.{if, and}
 use Rattle.jxl_reach.specs.Reach.{under, less}
 use Rattle.jxl_reach.specs.declared.BytesLeft.{BytesLeft}
@@ -31,15 +33,11 @@ use Rattle.jxl_totals.specs.declared.ContainerParser.{ContainerParser}
 use Rattle.jxl_totals.proofs.Laws.{empty_feed}
 use Rattle.jxl_joiner.specs.Joiner.{added, adding, handed}
 use Rattle.jxl_joiner.specs.declared.Added.{Added}
-use Rattle.jxl_joiner.specs.declared.MaybeEvent.{MaybeEvent}
-use Rattle.jxl_joiner.specs.declared.MaybeEvent.TheVariants.{None, Some}
 use Rattle.jxl_lines.specs.declared.StopWord.TheVariants as S
 use Rattle.jxl_list_rules.specs.Listed.{lines_of}
 use Rattle.jxl_list_rules.specs.Turned.{Turned, over, behind, line_of, turn_of}
-use Rattle.jxl_list_rules.specs.declared.TurnEnd.TheVariants as TurnEnd
 use Rattle.jxl_list_rules.specs.Theorems.{WayLeads}
 use Rattle.jxl_list_rules.specs.Way.{short_way, way_in, way_holding, Leads}
-use Rattle.jxl_list_rules.specs.declared.Way.TheVariants as W
 use Rattle.jxl_list_rules.proofs.Goes.{Goes, puts, waits, comes}
 
 -- within the limit all input is there, and nothing beyond it
@@ -67,11 +65,11 @@ module _ (a len tot total header room : ℕ) (k : BitstreamKind) (l : BytesLeft)
   abbrev left_in : ℕ → ContainerParser
   left_in n = counted (in_code k (less l n) false j) (total + n) header
 
-  abbrev longer_part : ℕ → MaybeEvent
+  abbrev longer_part : ℕ → Option FileEvent
   longer_part n = Some (carrying (E.Codestream a (total + n - a)) (total + n))
 
   abbrev then : ℕ → Turned
-  then n = over (TurnEnd.Stopped S.Want) (left_in n) (longer_part n) n
+  then n = over (Some S.Want) (left_in n) (longer_part n) n
 
   all_shown : (s : List ℕ) → 0 < length s → under 1 (less l (length s)) ≡ false → total + length s ≤ limit
       → step_of first s ≡ shows (carrying (E.Codestream 0 (length s)) (total + length s)) (left_in (length s)) (length s)
@@ -93,7 +91,7 @@ module _ (a len tot total header room : ℕ) (k : BitstreamKind) (l : BytesLeft)
       (omega (arith, none))
       (ap (λ (y : Added). behind (lines_of (handed y.out)) (then n)) (sym grown))
       (subst (λ (y : Added). Goes s room (left_in n) y.next.held n (then n)) (sym grown)
-      (waits {k = n} {c = 0} {q = left_in n} rest (ap (over (TurnEnd.Stopped S.Want) (left_in n) (longer_part n)) (sym (add-zero n)))))
+      (waits {k = n} {c = 0} {q = left_in n} rest (ap (over (Some S.Want) (left_in n) (longer_part n)) (sym (add-zero n)))))
 
   turn_inside : (s : List ℕ) → 0 < length s → under 1 (less l (length s)) ≡ false → total + length s ≤ limit
       → turn_of s room first (Some (carrying (E.Codestream a len) tot)) ≡ then (length s)
@@ -104,17 +102,17 @@ module _ (n a len tot total header : ℕ) (j : JxlpIndexState) where
   abbrev record_at : DetectState → ContainerParser
   record_at x = counted (at x j) total header
 
-  abbrev part : MaybeEvent
+  abbrev part : Option FileEvent
   part = Some (carrying (E.Codestream a len) tot)
 
   behind_code : (k : BitstreamKind) (l : BytesLeft) (o u : Bool) → over_index j ≡ o → under 1 (less l n) ≡ u → 0 < n → a + len ≡ total → total + n ≤ limit
-      → Leads (if o W.Long (if u W.Long (short_way (record_at (D.InCodestream k l false)) (in_code k (less l n) false j) a n))) (record_at (D.InCodestream k l false)) part n
+      → Leads (if o None (if u None (short_way (record_at (D.InCodestream k l false)) (in_code k (less l n) false j) a n))) (record_at (D.InCodestream k l false)) part n
   behind_code k l true u small left some there f = tt
   behind_code k l false true small left some there f = tt
   behind_code k l false false small left some there f =
       λ (s : List ℕ) (room : ℕ) (e : length s ≡ n).
       turn_inside a len tot total header room k l j small there s (omega (arith, e, some)) (ap (λ (x : ℕ). under 1 (less l x)) e ∙ left) (omega (arith, e, f))
-      ∙ ap (λ (x : ℕ). over (TurnEnd.Stopped S.Want) (counted (in_code k (less l x) false j) (total + x) header) (Some (carrying (E.Codestream a (total + x - a)) (total + x))) x) e
+      ∙ ap (λ (x : ℕ). over (Some S.Want) (counted (in_code k (less l x) false j) (total + x) header) (Some (carrying (E.Codestream a (total + x - a)) (total + x))) x) e
 
   behind_part : (x : DetectState) → 0 < n → a + len ≡ total → total + n ≤ limit → Leads (way_in (record_at x) a n x) (record_at x) part n
   behind_part D.WaitingSignature some there f = tt
@@ -127,7 +125,7 @@ module _ (n a len tot total header : ℕ) (j : JxlpIndexState) where
   behind_part (D.Refused k r) some there f = tt
 
   held_part : (x : DetectState) (z t u : Bool) → eqb n 0 ≡ z → leb (total + n) limit ≡ t → eqb (a + len) total ≡ u
-      → Leads (if z W.Long (if (and t u) (way_in (record_at x) a n x) W.Long)) (record_at x) part n
+      → Leads (if z None (if (and t u) (way_in (record_at x) a n x) None)) (record_at x) part n
   held_part x true t u some fits there = tt
   held_part x false true true some fits there =
       behind_part x (omega (arith, eqb-false n 0 some)) (eqb-true (a + len) total there) (leb-true (total + n) limit fits)

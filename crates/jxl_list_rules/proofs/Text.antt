@@ -7,6 +7,7 @@ use native.Mathlib.Omega.{arith}
 use lib.ListN.{length, take, drop, length-drop}
 use lib.Seq.{take_all, drop-drop}
 use borrow.Author.Tests.{le-leb, lt-leb}
+use Rattle.std.specs.Prelude.{Ok, Err}
 use Rattle.jxl_cuts.specs.Feeding as AnyMachine
 use Rattle.jxl_refusals.specs.Refusals.{why}
 use Rattle.jxl_refusals.specs.declared.BoxRefusal.TheVariants as Rule
@@ -41,7 +42,6 @@ use Rattle.jxl_lines.specs.declared.Put.TheVariants.{Written, NoRoom}
 use Rattle.jxl_lines.specs.declared.StopWord.{StopWord}
 use Rattle.jxl_lines.specs.declared.StopWord.TheVariants as S
 use Rattle.jxl_list_rules.specs.Listed.{texts, lines_of, listing_text, file_text, in_files, end_text, next_end, next_in, next_of, list_of}
-use Rattle.jxl_list_rules.specs.declared.AfterStep.TheVariants as N
 
 -- what a step that tells an event counts
 pub record CountsShown (p q : ContainerParser) (e : FileEvent) (c : ℕ) : Type 0 where
@@ -164,79 +164,74 @@ module _ (p : ContainerParser) (f : List ℕ) (w : Stop) (r : ContainerParser) (
       ap (λ (s : Seen). lines_of (events s) ++ end_text (ending_of (Feeding.take p (drop p.total f)) f) s.consumed) seen
       ∙ (λ i. end_text (ended_as_lem e i) (sym count i))
 
-  ended_shown : {e : ParseEvent} {q : ContainerParser} → next_end (end_of r u) ≡ N.Shown e q → Follows p f e q
-  ended_shown {e} {q} n = go (end_of r u) refl n
+  ended_shown : {e : ParseEvent} → (next_end (end_of r u)).answer ≡ Ok e → Follows p f e (next_end (end_of r u)).parser
+  ended_shown {e} n = go (end_of r u) refl n
     where
-      one_event : (d : FileEvent) (es : List FileEvent) (o : ContainerParser) → es ≡ [] → end_of r u ≡ done (d ∷ es) o → (in_file d).event ≡ e → o ≡ q → Follows p f e q
-      one_event d es o alone k event same =
+      one_event : (d : FileEvent) (es : List FileEvent) (o : ContainerParser) → es ≡ [] → end_of r u ≡ done (d ∷ es) o → (in_file d).event ≡ e → Follows p f e o
+      one_event d es o alone k event =
           let last : end_of r u ≡ done (d ∷ []) o = k ∙ ap (λ (l : List FileEvent). done (d ∷ l) o) alone in
           let closed = done_holds r u last in
           let keeps = rw last at (end_keeps r u) in
           let total : o.total ≡ r.total = keeps.1.1 in
-          let then : Follows p f e o =
           record {
             text_is = rest_ended last ∙ append_assoc (text (L.Shown (in_file d).event)) [] (text (L.Stopped S.Done r.total)) ∙ (λ i. text (L.Shown (event i)) ++ sym (closed_rest o f closed ∙ ap (λ (m : ℕ). text (L.Stopped S.Done m)) total) i);
             inside = omega (arith, total, count, fits);
             fewer = ap (λ (s : Seen). length (events s ++ owed_by 0 (ending_of (Feeding.take p (drop p.total f)) f))) seen ∙ ap (λ (x : Ended). length (owed_by 0 x)) (ended_as_lem last) ∙ ap suc (sym (closed_count o f closed));
-          } in
-          subst (Follows p f e) same then
+          }
 
-      go : (x : Ended) → end_of r u ≡ x → next_end x ≡ N.Shown e q → Follows p f e q
+      go : (x : Ended) → end_of r u ≡ x → (next_end x).answer ≡ Ok e → Follows p f e (next_end x).parser
       go (done [] o) k n = never cc
       go (done (d ∷ es) o) k n =
           let event : (in_file d).event ≡ e = cc in
-          let same : o ≡ q = cc in
-          one_event d es o (one_owed (rw k at (end_keeps r u)).0) k event same
+          one_event d es o (one_owed (rw k at (end_keeps r u)).0) k event
       go (refuses x o) k n = never cc
 
-  ended_stopped : {v : StopWord} {q : ContainerParser} → next_end (end_of r u) ≡ N.Stopped v q → Rest p f ≡ text (L.Stopped v q.total)
-  ended_stopped {v} {q} n = go (end_of r u) refl n
+  ended_stopped : {v : StopWord} → (next_end (end_of r u)).answer ≡ Err v → Rest p f ≡ text (L.Stopped v (next_end (end_of r u)).parser.total)
+  ended_stopped {v} n = go (end_of r u) refl n
     where
-      go : (x : Ended) → end_of r u ≡ x → next_end x ≡ N.Stopped v q → Rest p f ≡ text (L.Stopped v q.total)
+      go : (x : Ended) → end_of r u ≡ x → (next_end x).answer ≡ Err v → Rest p f ≡ text (L.Stopped v (next_end x).parser.total)
       go (done [] o) k n =
           let word : S.Done ≡ v = cc in
-          let same : o ≡ q = cc in
-          let total : r.total ≡ q.total = sym (rw k at (end_keeps r u)).1.1 ∙ ap (λ (x : ContainerParser). x.total) same in
+          let total : r.total ≡ o.total = sym (rw k at (end_keeps r u)).1.1 in
           rest_ended k ∙ (λ i. text (L.Stopped (word i) (total i)))
       go (done (d ∷ es) o) k n = never cc
       go (refuses x o) k n =
           let word : printed (why x.rule) ≡ v = cc in
-          let same : o ≡ q = cc in
-          let total : r.total ≡ q.total = sym (rw k at (end_keeps r u)).1 ∙ ap (λ (x : ContainerParser). x.total) same in
+          let total : r.total ≡ o.total = sym (rw k at (end_keeps r u)).1 in
           rest_ended k ∙ (λ i. text (L.Stopped (word i) (total i)))
 
 module _ (p : ContainerParser) (f : List ℕ) where
   -- an event's line, and the rest
-  pub following_shown : p.total ≤ length f → {e : ParseEvent} {q : ContainerParser} → next_of p (drop p.total f) ≡ N.Shown e q → Follows p f e q
-  following_shown h {e} {q} n = go (step_of p (drop p.total f)) refl n
+  pub following_shown : p.total ≤ length f → {e : ParseEvent} → (next_of p (drop p.total f)).answer ≡ Ok e → Follows p f e (next_of p (drop p.total f)).parser
+  following_shown h {e} n = go (step_of p (drop p.total f)) refl n
     where
-      go : (t : Told) → step_of p (drop p.total f) ≡ t → next_in (drop p.total f) t ≡ N.Shown e q → Follows p f e q
+      go : (t : Told) → step_of p (drop p.total f) ≡ t → (next_in (drop p.total f) t).answer ≡ Ok e → Follows p f e (next_in (drop p.total f) t).parser
       go (shows d r c) st n =
           let counts = shown_counts p (drop p.total f) st in
           let event : (in_file d).event ≡ e = cc in
-          let parser : r ≡ q = cc in
           let placed_at_lem : (further p.total d).event ≡ e = ap (λ (x : FileEvent). x.event) (in_file_further counts) ∙ event in
-          let taken : Feeding.take p (drop p.total f) ≡ followed (placed p.total (drop p.total f) d c ∷ []) (Feeding.take q (drop q.total f)) =
+          let taken : Feeding.take p (drop p.total f) ≡ followed (placed p.total (drop p.total f) d c ∷ []) (Feeding.take r (drop r.total f)) =
           taken_shown p f p.total st
-          ∙ ap (λ (m : ℕ). followed (placed p.total (drop p.total f) d c ∷ []) (Feeding.take r (drop m f))) (sym counts.next_total)
-          ∙ ap (λ (x : ContainerParser). followed (placed p.total (drop p.total f) d c ∷ []) (Feeding.take x (drop x.total f))) parser in
+          ∙ ap (λ (m : ℕ). followed (placed p.total (drop p.total f) d c ∷ []) (Feeding.take r (drop m f))) (sym counts.next_total) in
           record {
             text_is =
-                ap (λ (r : Seen). seen_text r f) taken
-                ∙ append_assoc (text (L.Shown (further p.total d).event)) (lines_of (events (Feeding.take q (drop q.total f)))) _
-                ∙ ap (λ (x : ParseEvent). text (L.Shown x) ++ Rest q f) placed_at_lem;
-            inside = omega (arith, shown_fits p f p.total h st, counts.next_total, ap (λ (x : ContainerParser). x.total) parser);
-            fewer = ap (λ (r : Seen). length (events r ++ owed_by 0 (ending_of r f))) taken;
+                ap (λ (x : Seen). seen_text x f) taken
+                ∙ append_assoc (text (L.Shown (further p.total d).event)) (lines_of (events (Feeding.take r (drop r.total f)))) _
+                ∙ ap (λ (x : ParseEvent). text (L.Shown x) ++ Rest r f) placed_at_lem;
+            inside = omega (arith, shown_fits p f p.total h st, counts.next_total);
+            fewer = ap (λ (x : Seen). length (events x ++ owed_by 0 (ending_of x f))) taken;
           }
       go (wants r c) st n = ended_shown p f Feeding.want r c (take_is (waits st)) (wants_counts p (drop p.total f) st).0 (wants_fits p f p.total h st) n
       go (Step.refuses x r c) st n =
           ended_shown p f (Feeding.refused x) r c (take_is (ends st)) (refuses_counts p (drop p.total f) st).0 (refuses_fits p f p.total h st) n
 
   -- the stop's line, and nothing more
-  pub following_stopped : p.total ≤ length f → {w : StopWord} {q : ContainerParser} → next_of p (drop p.total f) ≡ N.Stopped w q → Rest p f ≡ text (L.Stopped w q.total)
-  following_stopped h {w} {q} n = go (step_of p (drop p.total f)) refl n
+  pub following_stopped : p.total ≤ length f → {w : StopWord} → (next_of p (drop p.total f)).answer ≡ Err w
+      → Rest p f ≡ text (L.Stopped w (next_of p (drop p.total f)).parser.total)
+  following_stopped h {w} n = go (step_of p (drop p.total f)) refl n
     where
-      go : (t : Told) → step_of p (drop p.total f) ≡ t → next_in (drop p.total f) t ≡ N.Stopped w q → Rest p f ≡ text (L.Stopped w q.total)
+      go : (t : Told) → step_of p (drop p.total f) ≡ t → (next_in (drop p.total f) t).answer ≡ Err w
+          → Rest p f ≡ text (L.Stopped w (next_in (drop p.total f) t).parser.total)
       go (shows d r c) st n = never cc
       go (wants r c) st n = ended_stopped p f Feeding.want r c (take_is (waits st)) (wants_counts p (drop p.total f) st).0 (wants_fits p f p.total h st) n
       go (Step.refuses x r c) st n =

@@ -1,5 +1,5 @@
 -- The text of a listing: of what was seen, of a whole file, and of what closes it. A listing makes the end call.
-use Rattle.std.specs.Prelude.{List, [], ◌∷◌, ◌++◌, ℕ, ◌-◌, ◌^◌, min, leb, length, drop}
+use Rattle.std.specs.Prelude.{Result, Ok, Err, List, [], ◌∷◌, ◌++◌, ℕ, ◌-◌, ◌^◌, min, leb, length, drop}
 use Rattle.jxl_headers.specs.Bytes.{if}
 use Rattle.jxl_refusals.specs.Refusals.{Why, why, in_document01}
 use Rattle.jxl_refusals.specs.declared.BoxRefusal.{BoxRefusal}
@@ -20,7 +20,6 @@ use Rattle.jxl_lines.specs.declared.StopWord.{StopWord}
 use Rattle.jxl_lines.specs.declared.StopWord.TheVariants as S
 use Rattle.jxl_lines.specs.declared.Put.TheVariants.{Written, NoRoom}
 use Rattle.jxl_list_rules.specs.declared.AfterStep.{AfterStep}
-use Rattle.jxl_list_rules.specs.declared.AfterStep.TheVariants as N
 
 -- how a feed stops, as a turn says it
 abbrev pub stop_of : G.Stop → StopWord
@@ -68,15 +67,18 @@ abbrev pub end_text : Ended → ℕ → List ℕ
 end_text (End.done es q) n = lines_of (in_files es) ++ text (L.Stopped S.Done n)
 end_text (End.refuses r q) n = text (L.Stopped (printed (why r.rule)) n)
 
+abbrev pub after_step : Result ParseEvent StopWord → ContainerParser → AfterStep
+after_step answer q = record { parser = q; answer = answer }
+
 -- what comes next: an event with its place in the file, the owed one too, or the stop; and the record then
 abbrev pub next_end : Ended → AfterStep
-next_end (End.done [] q) = N.Stopped S.Done q
-next_end (End.done (e ∷ es) q) = N.Shown (in_file e).event q
-next_end (End.refuses r q) = N.Stopped (printed (why r.rule)) q
+next_end (End.done [] q) = after_step (Err S.Done) q
+next_end (End.done (e ∷ es) q) = after_step (Ok (in_file e).event) q
+next_end (End.refuses r q) = after_step (Err (printed (why r.rule))) q
 
 -- of a step on the bytes `s` to the end of the file: an event; or, where more is wanted or a rule broke, what the end call says
 abbrev pub next_in : List ℕ → Told → AfterStep
-next_in s (shows e q c) = N.Shown (in_file e).event q
+next_in s (shows e q c) = after_step (Ok (in_file e).event) q
 next_in s (wants q c) = next_end (end_of q (drop c s))
 next_in s (refuses r q c) = next_end (end_of q (drop c s))
 

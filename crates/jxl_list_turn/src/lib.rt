@@ -7,24 +7,10 @@ ghost use Rattle.jxl_list_rules.specs.Turned.{Told, turn_of};
 use jxl_container::ContainerParser;
 use jxl_joiner::Joiner;
 use jxl_lines::StopWord;
-use jxl_list_rules::Way;
 use jxl_long_way::turn_from;
 
 // What a turn leaves, and why it ended.
-pub use jxl_list_rules::{AfterTurn, TurnEnd};
-
-// What a turn leaves that wrote no line and wants more.
-fn waiting(parser: ContainerParser, joiner: Joiner, consumed: usize) -> AfterTurn
-    ensures { result ≡ record { parser = parser; joiner = joiner; consumed = consumed; written = 0; end = TurnEnd.Stopped StopWord.Want } }
-{
-    AfterTurn {
-        parser,
-        joiner,
-        consumed,
-        written: 0,
-        end: TurnEnd::Stopped(StopWord::Want),
-    }
-}
+pub use jxl_list_rules::AfterTurn;
 
 // One turn: the lines of the input's events, joined across turns, at the front of `out`. The input is the bytes left unread
 // and what was read behind them.
@@ -32,10 +18,13 @@ pub fn turn(parser: ContainerParser, joiner: Joiner, input: &[u8], out: &mut [u8
     ensures { Told result out.new out.old (turn_of input.now (length out.old) parser joiner.held) }
 {
     match jxl_short_way::way(parser, joiner, input.len()) {
-        Way::Short {
+        Some((next, longer)) => AfterTurn {
             parser: next,
             joiner: longer,
-        } => waiting(next, longer, input.len()),
-        Way::Long => turn_from(parser, joiner, input, out),
+            consumed: input.len(),
+            written: 0,
+            stop: Some(StopWord::Want),
+        },
+        None => turn_from(parser, joiner, input, out),
     }
 }

@@ -5,6 +5,7 @@ use Prim.Native.Nat.{ℕ, ◌+◌, ◌-◌, ◌≤◌}
 use native.Mathlib.Omega.{arith}
 use lib.ListN.{length, take, drop}
 use lib.Seq.{drop-drop, length-take-le}
+use Rattle.std.specs.Prelude.{Option, None, Some}
 use Rattle.jxl_refusals.specs.Refusals.{why}
 use Rattle.jxl_events.specs.declared.FileEvent.{FileEvent}
 use Rattle.jxl_totals.specs.Step.{shows, wants, refuses, step_of}
@@ -22,7 +23,6 @@ use Rattle.jxl_lines.specs.declared.StopWord.TheVariants as S
 use Rattle.jxl_list_rules.specs.Listed.{lines_of}
 use Rattle.jxl_list_rules.specs.Turned as Spec
 use Rattle.jxl_list_rules.specs.Turned.{Turned, over, behind, line_of, held_then, turn_from, turn_of}
-use Rattle.jxl_list_rules.specs.declared.TurnEnd.{TurnEnd}
 use Rattle.jxl_list_rules.specs.declared.AfterTurn.{AfterTurn}
 use Rattle.jxl_list_rules.proofs.Text.{shown_fits}
 use Rattle.jxl_list_rules.proofs.Turning.{turn_shown, turn_full, turn_wants, turn_refuses, behind_behind}
@@ -30,14 +30,14 @@ use Rattle.jxl_long_way.proofs.Putting.{front_put, put_was, put_was_not, take_pa
 
 -- the end of a turn, with its lines at the front of the buffer
 pub finish : (out buffer : List ℕ) (t : Turned) (r : AfterTurn) → r.written ≤ length out → drop r.written out ≡ drop r.written buffer
-    → t ≡ behind (take r.written out) (over r.end r.parser r.joiner.held r.consumed) → Spec.Told r out buffer t
+    → t ≡ behind (take r.written out) (over r.stop r.parser r.joiner.held r.consumed) → Spec.Told r out buffer t
 finish out buffer t r h d q =
     let lines : t.lines ≡ take r.written out = ap (λ (x : Turned). x.lines) q ∙ append-nil (take r.written out) in
     record {
       parser_is = sym (ap (λ (x : Turned). x.parser) q);
       held_is = sym (ap (λ (x : Turned). x.held) q);
       consumed_is = sym (ap (λ (x : Turned). x.consumed) q);
-      end_is = sym (ap (λ (x : Turned). x.end) q);
+      stop_is = sym (ap (λ (x : Turned). x.stop) q);
       written_is = sym (ap length lines ∙ length-take-le r.written out h);
       buffer_is = front_put out buffer r.written h d ∙ ap (pasted buffer 0) (sym lines);
     }
@@ -49,12 +49,12 @@ pub record Going (s buffer : List ℕ) (all : Turned) (out : List ℕ) (r : Afte
   pub same : length out ≡ length buffer
   pub untouched : drop r.written out ≡ drop r.written buffer
   pub told : all ≡ behind (take r.written out) (turn_from s (length buffer - r.written) r.parser r.joiner.held r.consumed)
-  pub goes_on_lem : r.end ≡ TurnEnd.Full
+  pub goes_on_lem : r.stop ≡ None
 
-abbrev pub leaving : ContainerParser → Joiner → ℕ → ℕ → TurnEnd → AfterTurn
-leaving p j k w e = record { parser = p; joiner = j; consumed = k; written = w; end = e }
+abbrev pub leaving : ContainerParser → Joiner → ℕ → ℕ → Option StopWord → AfterTurn
+leaving p j k w e = record { parser = p; joiner = j; consumed = k; written = w; stop = e }
 
-pub going_first : (s buffer : List ℕ) (p : ContainerParser) (j : Joiner) {r : AfterTurn} → r ≡ leaving p j 0 0 TurnEnd.Full
+pub going_first : (s buffer : List ℕ) (p : ContainerParser) (j : Joiner) {r : AfterTurn} → r ≡ leaving p j 0 0 None
     → Going s buffer (turn_of s (length buffer) r.parser r.joiner.held) buffer r
 unfolding turn_of
 going_first s buffer p j so =
@@ -74,7 +74,7 @@ module _ (s buffer : List ℕ) (all : Turned) (out : List ℕ) (r : AfterTurn) (
       (a : added ≡ adding r.joiner.held e) where
     -- its line, if any, was put
     pub going_on : {n : ℕ} {then : AfterTurn} (put : List ℕ) → leaves (Written n) put ≡ put_of out r.written (lines_of (handed added.out))
-        → then ≡ leaving q added.next (r.consumed + c) n TurnEnd.Full → Going s buffer all put then
+        → then ≡ leaving q added.next (r.consumed + c) n None → Going s buffer all put then
     going_on {n} put w-is so =
         let h = r.joiner.held in
         let w = r.written in
@@ -110,24 +110,24 @@ module _ (s buffer : List ℕ) (all : Turned) (out : List ℕ) (r : AfterTurn) (
         let w = r.written in
         let k = r.consumed in
         let was = put_was_not out w (line_of h e) put (w-is ∙ ap (λ (x : Added). put_of out w (lines_of (handed x.out))) a) in
-        let end : all ≡ behind (take w out) (over r.end r.parser h k) =
+        let end : all ≡ behind (take w out) (over r.stop r.parser h k) =
         g.told
         ∙ ap (behind (take w out)) (turn_full s (length buffer - w) r.parser h k st (omega (arith, was.0, g.same, g.room)))
-        ∙ ap (λ (x : TurnEnd). behind (take w out) (over x r.parser h k)) (sym g.goes_on_lem) in
+        ∙ ap (λ (x : Option StopWord). behind (take w out) (over x r.parser h k)) (sym g.goes_on_lem) in
         subst (λ (x : List ℕ). Spec.Told r x buffer all) (sym was.1) (finish out buffer all r g.room g.untouched end)
 
   -- the parser stops
   stops : {x : StopWord} {q : ContainerParser} {m : ℕ} {then : AfterTurn}
-      → turn_from s (length buffer - r.written) r.parser r.joiner.held r.consumed ≡ over (TurnEnd.Stopped x) q r.joiner.held m
-      → then ≡ leaving q r.joiner m r.written (TurnEnd.Stopped x) → Spec.Told then out buffer all
+      → turn_from s (length buffer - r.written) r.parser r.joiner.held r.consumed ≡ over (Some x) q r.joiner.held m
+      → then ≡ leaving q r.joiner m r.written (Some x) → Spec.Told then out buffer all
   stops {x} {q} {m} f so =
       subst (λ (y : AfterTurn). Spec.Told y out buffer all) (sym so)
-      (finish out buffer all (leaving q r.joiner m r.written (TurnEnd.Stopped x)) g.room g.untouched (g.told ∙ ap (behind (take r.written out)) f))
+      (finish out buffer all (leaving q r.joiner m r.written (Some x)) g.room g.untouched (g.told ∙ ap (behind (take r.written out)) f))
 
   pub going_wants : {q : ContainerParser} {c : ℕ} {then : AfterTurn} → step_of r.parser (drop r.consumed s) ≡ wants q c
-      → then ≡ leaving q r.joiner (r.consumed + c) r.written (TurnEnd.Stopped S.Want) → Spec.Told then out buffer all
+      → then ≡ leaving q r.joiner (r.consumed + c) r.written (Some S.Want) → Spec.Told then out buffer all
   going_wants st = stops (turn_wants s (length buffer - r.written) r.parser r.joiner.held r.consumed st)
 
   pub going_refused : {x : FileRefusal} {q : ContainerParser} {c : ℕ} {then : AfterTurn} → step_of r.parser (drop r.consumed s) ≡ refuses x q c
-      → then ≡ leaving q r.joiner (r.consumed + c) r.written (TurnEnd.Stopped (printed (why x.rule))) → Spec.Told then out buffer all
+      → then ≡ leaving q r.joiner (r.consumed + c) r.written (Some (printed (why x.rule))) → Spec.Told then out buffer all
   going_refused st = stops (turn_refuses s (length buffer - r.written) r.parser r.joiner.held r.consumed st)

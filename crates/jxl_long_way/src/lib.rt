@@ -1,48 +1,39 @@
 // The long way of a turn: step by step, each event added to the joiner, each line that the joiner hands back put into the buffer.
 #![tactic(auto)]
 
-ghost use Rattle.std.specs.Prelude.{◌≡◌, ◌≤◌, length};
+ghost use Rattle.std.specs.Prelude.{◌≡◌, ◌+◌, ◌^◌, ◌<◌, ◌≤◌, Some, length};
 ghost use Rattle.jxl_lines.specs.Putting.{leaves, put_of};
 ghost use Rattle.jxl_list_rules.specs.Listed.{lines_of};
 ghost use Rattle.jxl_list_rules.specs.Turned.{Told, turn_of};
 ghost use Rattle.jxl_joiner.specs.Joiner.{handed};
 
 use jxl_container::{ContainerParser, FileEvent, ParseEvent, StepResult};
-use jxl_joiner::{Joiner, MaybeEvent};
+use jxl_joiner::Joiner;
 use jxl_lines::{Line, StopWord};
-use jxl_list_rules::{AfterTurn, TurnEnd};
+use jxl_list_rules::AfterTurn;
 use jxl_listing::Put;
 
 // Puts the line of an event that a joiner handed back, if it did.
-fn put_held(out: &mut [u8], at: usize, held: MaybeEvent) -> Put
+fn put_held(out: &mut [u8], at: usize, held: Option<FileEvent>) -> Put
     requires { at ≤ length out.old }
     ensures { leaves result out.new ≡ put_of out.old at (lines_of (handed held)) }
 {
     match held {
-        MaybeEvent::None => Put::Written(at),
-        MaybeEvent::Some(whole) => {
-            let event = whole.event;
-            jxl_listing::put_line(out, at, Line::Shown(event))
-        }
+        None => Put::Written(at),
+        Some(whole) => jxl_listing::put_line(out, at, Line::Shown(whole.event)),
     }
 }
 
-// What a turn leaves.
-fn after(
-    parser: ContainerParser,
-    joiner: Joiner,
-    consumed: usize,
-    written: usize,
-    end: TurnEnd,
-) -> AfterTurn
-    ensures { result ≡ record { parser = parser; joiner = joiner; consumed = consumed; written = written; end = end } }
+// What a turn leaves where the parser stops behind so many bytes more.
+fn stopped(t: AfterTurn, next: ContainerParser, consumed: usize, stop: StopWord) -> AfterTurn
+    requires { t.consumed + consumed < 2 ^ 64 }
+    ensures { result ≡ record { parser = next; joiner = t.joiner; consumed = t.consumed + consumed; written = t.written; stop = Some stop } }
 {
     AfterTurn {
-        parser,
-        joiner,
-        consumed,
-        written,
-        end,
+        parser: next,
+        consumed: t.consumed + consumed,
+        stop: Some(stop),
+        ..t
     }
 }
 
@@ -50,41 +41,44 @@ fn after(
 pub fn turn_from(parser: ContainerParser, joiner: Joiner, input: &[u8], out: &mut [u8]) -> AfterTurn
     ensures { Told result out.new out.old (turn_of input.now (length out.old) parser joiner.held) }
 {
-    let mut t = after(parser, anew(joiner), 0, 0, TurnEnd::Full);
+    let mut t = AfterTurn {
+        parser,
+        joiner: anew(joiner),
+        consumed: 0,
+        written: 0,
+        stop: None,
+    };
     loop {
-        let p = t.parser;
-        let j = t.joiner;
-        let k = t.consumed;
-        match jxl_container::step(p, &input[k..]) {
+        match jxl_container::step(t.parser, &input[t.consumed..]) {
             StepResult::Shown {
                 next,
                 consumed,
                 event,
             } => {
-                let added = j.add(event);
-                let handed = added.out;
-                let held = added.next;
-                match put_held(out, t.written, handed) {
-                    Put::Written(w) => t = after(next, held, k + consumed, w, TurnEnd::Full),
+                let added = t.joiner.add(event);
+                match put_held(out, t.written, added.out) {
+                    Put::Written(written) => {
+                        t = AfterTurn {
+                            parser: next,
+                            joiner: added.next,
+                            consumed: t.consumed + consumed,
+                            written,
+                            stop: None,
+                        };
+                    }
                     Put::NoRoom(_) => return t,
                 }
             }
             StepResult::Want { next, consumed } => {
-                let want = TurnEnd::Stopped(StopWord::Want);
-                return after(next, j, k + consumed, t.written, want);
+                return stopped(t, next, consumed, StopWord::Want);
             }
             StepResult::Refused {
                 next,
                 consumed,
                 refusal,
-            } => {
-                let rule = refusal.rule;
-                let stop = StopWord::refused(rule);
-                return after(next, j, k + consumed, t.written, TurnEnd::Stopped(stop));
-            }
+            } => return stopped(t, next, consumed, StopWord::refused(refusal.rule)),
             StepResult::Closed { next, consumed } => {
-                let closed = TurnEnd::Stopped(StopWord::Closed);
-                return after(next, j, k + consumed, t.written, closed);
+                return stopped(t, next, consumed, StopWord::Closed);
             }
         }
     }
@@ -116,13 +110,10 @@ fn same_event(event: FileEvent) -> FileEvent
 fn anew(joiner: Joiner) -> Joiner
     ensures { result ≡ joiner }
 {
-    let held = joiner.held;
-    match held {
-        MaybeEvent::None => Joiner {
-            held: MaybeEvent::None,
-        },
-        MaybeEvent::Some(event) => Joiner {
-            held: MaybeEvent::Some(same_event(event)),
+    match joiner.held {
+        None => Joiner { held: None },
+        Some(event) => Joiner {
+            held: Some(same_event(event)),
         },
     }
 }

@@ -7,8 +7,7 @@ ghost use Rattle.jxl_list_rules.specs.Way.{way_behind, way_of};
 
 use jxl_events::{FileEvent, ParseEvent};
 use jxl_impossible::over_index;
-use jxl_joiner::{Joiner, MaybeEvent};
-use jxl_list_rules::Way;
+use jxl_joiner::Joiner;
 use jxl_record::{BoxParser, DetectState};
 use jxl_totals::ContainerParser;
 
@@ -16,46 +15,32 @@ use jxl_totals::ContainerParser;
 fn within(total: u64, n: usize) -> bool
     ensures { result ≡ leb (total + n) limit }
 {
-    if total <= 0x7fff_ffff_ffff_ffff {
-        n as u64 <= 0x7fff_ffff_ffff_ffff - total
-    } else {
-        false
-    }
+    total.saturating_add(n as u64) <= 0x7fff_ffff_ffff_ffff
 }
 
 // Whether `len` bytes at `at` end at `total`.
 fn ends_at(at: usize, len: usize, total: u64) -> bool
     ensures { result ≡ eqb (at + len) total }
 {
-    if (total as usize) < at {
-        return false;
-    }
-    total as usize - at == len
+    at.checked_add(len) == Some(total as usize)
 }
 
-// The rules' record behind `n` bytes inside a codestream, with no event to tell first and something left behind them.
-fn way_behind(parser: ContainerParser, at: usize, n: usize) -> Way
+// The rules' record behind `n` bytes inside a codestream, and the part held then; none with an event to tell first, or with nothing left
+// behind the bytes.
+fn way_behind(parser: ContainerParser, at: usize, n: usize) -> Option<(ContainerParser, Joiner)>
     requires { (parser.total + n < 2 ^ 64) × (at ≤ parser.total) }
     ensures { result ≡ way_behind parser at n }
 {
-    let boxes = parser.boxes;
-    let state = boxes.state;
-    let jxlp = boxes.jxlp;
+    let BoxParser { state, jxlp } = parser.boxes;
     match state {
         DetectState::InCodestream {
             kind,
-            bytes_left: left,
-            pending_no_more_aux_box,
+            bytes_left,
+            pending_no_more_aux_box: false,
         } => {
-            if pending_no_more_aux_box {
-                return Way::Long;
-            }
-            if over_index(jxlp) {
-                return Way::Long;
-            }
-            let then = left.less(n as u64);
-            if then.under(1) {
-                return Way::Long;
+            let then = bytes_left.less(n as u64);
+            if over_index(jxlp) || then.under(1) {
+                return None;
             }
             let total = parser.total + n as u64;
             let state = DetectState::InCodestream {
@@ -63,50 +48,38 @@ fn way_behind(parser: ContainerParser, at: usize, n: usize) -> Way
                 bytes_left: then,
                 pending_no_more_aux_box: false,
             };
-            Way::Short {
-                parser: ContainerParser {
-                    boxes: BoxParser { state, jxlp },
-                    total,
-                    header: parser.header,
+            let longer = FileEvent {
+                event: ParseEvent::Codestream {
+                    at,
+                    len: total as usize - at,
                 },
-                joiner: Joiner {
-                    held: MaybeEvent::Some(FileEvent {
-                        event: ParseEvent::Codestream {
-                            at,
-                            len: total as usize - at,
-                        },
-                        total,
-                    }),
-                },
-            }
+                total,
+            };
+            let next = ContainerParser {
+                boxes: BoxParser { state, jxlp },
+                total,
+                header: parser.header,
+            };
+            Some((next, Joiner { held: Some(longer) }))
         }
-        _ => Way::Long,
+        _ => None,
     }
 }
 
-// The way of a turn on `n` bytes. Most turns on a large picture lie inside one payload.
-pub fn way(parser: ContainerParser, joiner: Joiner, n: usize) -> Way
+// What the short way leaves of a turn on `n` bytes: the record, and the joiner with its part made longer; or none, where the turn is to be
+// worked out. Most turns on a large picture lie inside one payload.
+pub fn way(parser: ContainerParser, joiner: Joiner, n: usize) -> Option<(ContainerParser, Joiner)>
     ensures { result ≡ way_of parser joiner.held n }
 {
-    let held = joiner.held;
-    if n == 0 {
-        return Way::Long;
-    }
-    match held {
-        MaybeEvent::None => Way::Long,
-        MaybeEvent::Some(first) => {
-            let event = first.event;
-            match event {
-                ParseEvent::Codestream { at, len } => {
-                    if within(parser.total, n) {
-                        if ends_at(at, len, parser.total) {
-                            return way_behind(parser, at, n);
-                        }
-                    }
-                    Way::Long
-                }
-                _ => Way::Long,
+    let first = joiner.held?;
+    match first.event {
+        ParseEvent::Codestream { at, len } => {
+            if n > 0 && within(parser.total, n) && ends_at(at, len, parser.total) {
+                way_behind(parser, at, n)
+            } else {
+                None
             }
         }
+        _ => None,
     }
 }

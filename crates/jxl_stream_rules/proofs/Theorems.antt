@@ -6,12 +6,11 @@ use Prim.Native.Nat.{ℕ, ◌+◌, ◌-◌, ◌≤◌}
 use native.Mathlib.Omega.{arith}
 use lib.ListN.{length, drop}
 use lib.Seq.{drop-drop, drop-append-le}
+use Rattle.std.specs.Prelude.{Option, None}
 use Rattle.jxl_cuts.specs.Feeding as AnyMachine
 use Rattle.jxl_events.specs.Total.{EndsAt}
 use Rattle.jxl_events.specs.declared.FileEvent.{FileEvent}
 use Rattle.jxl_joiner.specs.Joiner.{handed, run}
-use Rattle.jxl_joiner.specs.declared.MaybeEvent.{MaybeEvent}
-use Rattle.jxl_joiner.specs.declared.MaybeEvent.TheVariants.{None}
 use Rattle.jxl_totals.specs.Step.{fresh}
 use Rattle.jxl_totals.specs.Parser.{parser}
 use Rattle.jxl_totals.specs.Feeding.{Stop, Shown, Seen, want, events_in, events, joined, take, feeding, bytes_of}
@@ -38,7 +37,7 @@ events_append [] ys = refl
 events_append (x ∷ xs) ys = ap (λ (l : List FileEvent). x.event ∷ l) (events_append xs ys)
 
 -- what reads, listed, came to, and what feeding them comes to
-pub record Goes (h : MaybeEvent) (s : Listed) (f : Seen) (start : ℕ) (all : List ℕ) : Type 0 where
+pub record Goes (h : Option FileEvent) (s : Listed) (f : Seen) (start : ℕ) (all : List ℕ) : Type 0 where
   pub lines_are : (es : List FileEvent) → s.lines ++ lines_of (run s.held es) ≡ lines_of (run h (events f ++ es))
   pub parser_is : s.parser ≡ f.next
   pub total_is : s.parser.total ≡ f.consumed
@@ -57,7 +56,7 @@ take_within p s = omega (arith, nothing_more p (s ∷ []), ap (λ (r : Seen). r.
 drop_front : (a k : ℕ) (xs ys : List ℕ) → k ≤ length xs → drop a (drop k xs ++ ys) ≡ drop (k + a) (xs ++ ys)
 drop_front a k xs ys h = ap (drop a) (sym (drop-append-le k xs ys h)) ∙ drop-drop a k (xs ++ ys)
 
-goes : (xs : List Read) (w : Stop) (p : ContainerParser) (h : MaybeEvent) (u : List ℕ) → RowsEnd p h u xs
+goes : (xs : List Read) (w : Stop) (p : ContainerParser) (h : Option FileEvent) (u : List ℕ) → RowsEnd p h u xs
     → Goes h (listing p h u xs) (AnyMachine.fed parser w p p.total u (packets xs)) p.total (u ++ bytes_of (packets xs))
 unfolding listing RowsEnd AnyMachine.fed
 goes [] w p h u ends =

@@ -1,6 +1,5 @@
 -- What is proved of a stream; proofs/ has a proof of the statement under the same name in small letters.
-use Rattle.std.specs.Prelude.{◌≡◌, List, []}
-use Rattle.jxl_joiner.specs.declared.MaybeEvent.TheVariants.{None}
+use Rattle.std.specs.Prelude.{None, ◌≡◌, List, []}
 use Rattle.jxl_totals.specs.Step.{fresh}
 use Rattle.jxl_totals.specs.Feeding.{bytes_of}
 use Rattle.jxl_list_rules.specs.Listed.{file_text}

@@ -3,9 +3,10 @@
 #![tactic(auto)]
 
 ghost use Rattle.std.specs.Prelude.{◌≡◌};
-ghost use Rattle.jxl_totals.specs.Step.{fresh, kind_of};
+ghost use Rattle.jxl_grammar.specs.Step as Boxes;
+ghost use Rattle.jxl_totals.specs.Step.{counted, fresh, kind_of};
 
-use jxl_record::{BitstreamKind, BoxParser};
+use jxl_record::{BitstreamKind, BoxParser, DetectState};
 use jxl_refusals::BoxRefusal;
 
 // The parser's whole record: the rules' own, the bytes consumed, and the first byte of the newest header (0 before the first one). The
@@ -42,7 +43,19 @@ impl ContainerParser {
     pub fn kind(self) -> BitstreamKind
         ensures { result ≡ kind_of self }
     {
-        let boxes = self.boxes;
-        boxes.kind()
+        self.boxes.kind()
+    }
+
+    // The record that takes no more for this cause; kind, row, total and header stay.
+    pub fn stopped(self, refusal: BoxRefusal) -> Self
+        ensures { result ≡ counted (Boxes.refused refusal self.boxes) self.total self.header }
+    {
+        let kind = self.kind();
+        let state = DetectState::Refused { kind, refusal };
+        ContainerParser {
+            boxes: BoxParser::at(state, self.boxes.jxlp),
+            total: self.total,
+            header: self.header,
+        }
     }
 }

@@ -1,3 +1,4 @@
+use Rattle.std.specs.Prelude.{Some}
 use Rattle.std.proofs.Common.{◌≡◌, ℕ, suc, ◌+◌, ◌-◌, ◌≤◌, List, length, refl, sym, ap, ◌∙◌, arith}
 use lib.ListN.{take, drop}
 use Rattle.jxl_totals.specs.Step.{step_of}
@@ -12,7 +13,6 @@ use Rattle.jxl_joiner.specs.declared.Joiner.{Joiner}
 use Rattle.jxl_lines.specs.declared.StopWord.{StopWord}
 use Rattle.jxl_list_rules.specs.Turned.{turn_of}
 use Rattle.jxl_list_rules.specs.declared.AfterTurn.{AfterTurn}
-use Rattle.jxl_list_rules.specs.declared.TurnEnd.TheVariants as TurnEnd
 use Rattle.jxl_list_rules.proofs.Text.{count, far, taken_shown, shown_fits, wants_fits, refuses_fits}
 use Rattle.jxl_long_way.proofs.Going.{leaving, going_first, going_on, going_full, going_wants, going_refused}
 use Rattle.jxl_long_way.proofs.turn_from.Goals as goal
@@ -90,7 +90,7 @@ returns-in-Refused c =
     let s = c.args.input.now in
     let refused = stepped t.parser s t.consumed c.loop-next.invariant.inside (A.Refused c.in-Refused.next c.in-Refused.consumed c.in-Refused.refusal) c.in-Refused.ensures in
     going_refused s c.args.out.now _ c.loop-next.out t c.loop-next.invariant refused
-    (c.after-in-Refused.ensures ∙ ap (λ (x : StopWord). leaving c.in-Refused.next t.joiner (t.consumed + c.in-Refused.consumed) t.written (TurnEnd.Stopped x)) c.refused-stop.ensures)
+    (c.after-in-Refused.ensures ∙ ap (λ (x : StopWord). leaving c.in-Refused.next t.joiner (t.consumed + c.in-Refused.consumed) t.written (Some x)) c.refused-stop.ensures)
 
 -- Closed is a refusal by the rule Closed
 pub overflow_add-k-in-Closed : goal.overflow_add-k-in-Closed
