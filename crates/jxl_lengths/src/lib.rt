@@ -10,18 +10,15 @@ use jxl_lines::{Line, StopWord};
 use jxl_record::BitstreamKind;
 
 // How many decimal digits `n` has.
-#[tactic(auto, using(jxl_lines::proofs::Numbers::decimal_small, jxl_lines::proofs::Numbers::decimal_longer, jxl_lines::proofs::Numbers::decimal_most))]
+#[tactic(auto, using(crate::proofs::Counting::one_digit, crate::proofs::Counting::digits_by_power))]
 pub fn digits(n: usize) -> usize
     ensures value { result ≡ length (decimal n) }
     ensures upper_bound { result ≤ 20 }
 {
-    let mut count = 1;
-    let mut rest = n;
-    while 10 <= rest {
-        rest /= 10;
-        count += 1;
+    match n.checked_ilog10() {
+        None => 1, // 0 has no logarithm
+        Some(power) => power as usize + 1,
     }
-    count
 }
 
 // The bytes of the line, counted and not written.

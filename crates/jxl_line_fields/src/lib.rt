@@ -8,23 +8,13 @@ ghost use Rattle.jxl_lines.specs.Pasting.{Pasted};
 ghost use Rattle.jxl_lines.specs.Putting.{leaves, put_of};
 ghost use Rattle.jxl_line_fields.specs.Fields.{HasRoom, PutIfRoom};
 
-pub use jxl_lines::Put;
-
-// A part of a table of words: its bytes from the first place up to the second.
-#[derive(Clone, Copy)]
-pub struct Part(pub usize, pub usize);
+pub use jxl_lines::{NoRoom, Put};
 
 // Whether `n` bytes fit at `at` into a buffer of `len`.
 fn has_room(len: usize, at: usize, n: usize) -> bool
     ensures { HasRoom len at n result }
 {
-    if len < at {
-        return false;
-    }
-    if len - at < n {
-        return false;
-    }
-    true
+    at <= len && n <= len - at
 }
 
 // Copies `word` to `at`, where it fits.
@@ -32,14 +22,9 @@ fn write_word(out: &mut [u8], at: usize, word: &[u8]) -> usize
     requires { at + length word.now ≤ length out.old }
     ensures { Pasted out.old at word.now out.new result }
 {
-    let mut i = 0;
-    let mut o = at;
-    while i < word.len() {
-        out[o] = word[i];
-        o += 1;
-        i += 1;
-    }
-    o
+    let end = at + word.len();
+    out[at..end].copy_from_slice(word);
+    end
 }
 
 // Copies `word` to `at` if all of it fits there, and answers where the next byte goes; otherwise the buffer stays as it was, and that is `at`.
@@ -47,9 +32,10 @@ pub fn copy_in(out: &mut [u8], at: usize, word: &[u8]) -> usize
     ensures { PutIfRoom out.old at word.now out.new result }
 {
     if has_room(out.len(), at, word.len()) {
-        return write_word(out, at, word);
+        write_word(out, at, word)
+    } else {
+        at // nothing was put
     }
-    at // nothing was put
 }
 
 // The character of the last hex digit of `n`.
@@ -57,7 +43,7 @@ fn glyph(n: usize) -> u8
     ensures { result ≡ Digits.glyph (n % 16) }
 {
     let d = (n % 16) as u8;
-    if d < 10 { 48 + d } else { 87 + d }
+    if d < 10 { b'0' + d } else { b'a' + (d - 10) }
 }
 
 // The eight hex digits of a type, which fit. Stored one by one: two fours make the listing of small boxes a tenth slower.
@@ -78,13 +64,15 @@ fn write_type(out: &mut [u8], at: usize, ty: u32) -> usize
 }
 
 // The eight hex digits of a type if they fit at `at`, as `copy_in` does.
+#[tactic(auto, using(jxl_lines::proofs::Numbers::type_length))]
 pub fn put_type(out: &mut [u8], at: usize, ty: u32) -> usize
     ensures { PutIfRoom out.old at (hex8 ty) out.new result }
 {
     if has_room(out.len(), at, 8) {
-        return write_type(out, at, ty);
+        write_type(out, at, ty)
+    } else {
+        at
     }
-    at
 }
 
 // The last two decimal digits of `n`.
@@ -98,6 +86,7 @@ fn put_two(out: &mut [u8], at: usize, n: usize) -> usize
 }
 
 // The decimal digits of `n`, which fit: all but the last two first.
+#[tactic(auto, using(jxl_lines::proofs::Numbers::decimal_small, jxl_lines::proofs::Numbers::decimal_two, jxl_lines::proofs::Numbers::decimal_two_longer))]
 fn write_decimal(out: &mut [u8], at: usize, n: usize) -> usize
     requires { at + length (decimal n) ≤ length out.old }
     ensures { Pasted out.old at (decimal n) out.new result }
@@ -114,14 +103,12 @@ fn write_decimal(out: &mut [u8], at: usize, n: usize) -> usize
 }
 
 // Whether the decimal digits of `n` fit at `at` into a buffer of `len`.
+#[tactic(auto, using(jxl_lines::proofs::Numbers::decimal_most))]
 fn number_fits(len: usize, at: usize, n: usize) -> bool
     ensures { HasRoom len at (length (decimal n)) result }
 {
     // a number has at most 20 digits
-    if has_room(len, at, 20) {
-        return true;
-    }
-    has_room(len, at, jxl_lengths::digits(n))
+    has_room(len, at, 20) || has_room(len, at, jxl_lengths::digits(n))
 }
 
 // The decimal digits of `n` if they fit at `at`, as `copy_in` does.
@@ -129,17 +116,22 @@ pub fn put_decimal(out: &mut [u8], at: usize, n: usize) -> usize
     ensures { PutIfRoom out.old at (decimal n) out.new result }
 {
     if number_fits(out.len(), at, n) {
-        return write_decimal(out, at, n);
+        write_decimal(out, at, n)
+    } else {
+        at
     }
-    at
 }
 
 // Puts the words at `at` if all of them fit there; otherwise the buffer stays as it was, and their length is told.
+#[tactic(auto, using(jxl_lines::proofs::Putting::no_room))]
 pub fn put_words(out: &mut [u8], at: usize, words: &[u8]) -> Put
     ensures { leaves result out.new ≡ put_of out.old at words.now }
 {
     if has_room(out.len(), at, words.len()) {
-        return Put::Written(write_word(out, at, words));
+        Ok(write_word(out, at, words))
+    } else {
+        Err(NoRoom {
+            needed: words.len(),
+        })
     }
-    Put::NoRoom(words.len())
 }

@@ -7,10 +7,10 @@ use native.Mathlib.Omega.{arith}
 use lib.Dec.{leb}
 use lib.ListN.{length}
 use borrow.Author.Tests.{le-leb, lt-leb, leb-true}
+use Rattle.std.specs.Prelude.{Ok, Err}
 use Rattle.jxl_lines.specs.Pasting.{Pasted}
 use Rattle.jxl_lines.specs.Putting.{leaves, put_of}
 use Rattle.jxl_lines.specs.Theorems.{PutWhereRoom, KeptWithoutRoom}
-use Rattle.jxl_lines.specs.declared.Put.TheVariants.{Written, NoRoom}
 
 pub kept_without_room : KeptWithoutRoom
 unfolding put_of
@@ -21,10 +21,10 @@ unfolding put_of
 put_where_room d at w h = rw le-leb
 
 module _ (d : List ℕ) (at : ℕ) (w : List ℕ) where
-  pub no_room : {n : ℕ} → n ≡ length w → length d < at + n → leaves (NoRoom n) d ≡ put_of d at w
-  no_room {n} m h = ap (λ (k : ℕ). leaves (NoRoom k) d) m ∙ sym (kept_without_room d at w (omega arith))
+  pub no_room : {n : ℕ} → n ≡ length w → length d < at + n → leaves (Err (record { needed = n })) d ≡ put_of d at w
+  no_room {n} m h = ap (λ (k : ℕ). leaves (Err (record { needed = k })) d) m ∙ sym (kept_without_room d at w (omega arith))
 
-pub room : {d w e : List ℕ} {at r : ℕ} → Pasted d at w e r → leaves (Written r) e ≡ put_of d at w
+pub room : {d w e : List ℕ} {at r : ℕ} → Pasted d at w e r → leaves (Ok r) e ≡ put_of d at w
 room {d} {w} {e} {at} {r} p =
     let bytes = p.bytes in
     let next = p.next in
@@ -32,7 +32,7 @@ room {d} {w} {e} {at} {r} p =
     cc
 
 -- what was written ends inside the buffer
-pub put_within : (d : List ℕ) (at : ℕ) (w : List ℕ) {e : List ℕ} {n : ℕ} → leaves (Written n) e ≡ put_of d at w → n ≤ length d
+pub put_within : (d : List ℕ) (at : ℕ) (w : List ℕ) {e : List ℕ} {n : ℕ} → leaves (Ok n) e ≡ put_of d at w → n ≤ length d
 unfolding put_of
 put_within d at w {e} {n} q = go (leb (at + length w) (length d)) refl
   where

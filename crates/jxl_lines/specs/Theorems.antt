@@ -1,5 +1,5 @@
 -- What is proved of lines, each statement a type that proofs/ has a proof of under the same name in small letters.
-use Rattle.std.specs.Prelude.{◌≡◌, List, ℕ, ◌+◌, ◌≤◌, ◌<◌, length}
+use Rattle.std.specs.Prelude.{◌≡◌, List, ℕ, ◌+◌, ◌≤◌, ◌<◌, length, Ok, Err}
 use Rattle.jxl_base.specs.OneAnswer.{OneAnswer, OneAnswerAndBuffer}
 use Rattle.jxl_refusals.specs.Refusals.{why}
 use Rattle.jxl_refusals.specs.declared.BoxRefusal.{BoxRefusal}
@@ -7,7 +7,6 @@ use Rattle.jxl_lines.specs.Lines.{printed, text, InRange}
 use Rattle.jxl_lines.specs.Pasting.{pasted}
 use Rattle.jxl_lines.specs.Putting.{leaves, put_of}
 use Rattle.jxl_lines.specs.declared.Line.{Line}
-use Rattle.jxl_lines.specs.declared.Put.TheVariants.{Written, NoRoom}
 
 -- a line has at most 56 bytes
 abbrev pub MostBytes : Type 0
@@ -24,11 +23,11 @@ NoTwoAlike = (x y : Line) → InRange x → InRange y → text x ≡ text y → 
 -- bytes that fit at `at` are put there, and the next byte goes behind them
 abbrev pub PutWhereRoom : Type 0
 PutWhereRoom = (d : List ℕ) (at : ℕ) (w : List ℕ) → at + length w ≤ length d
-    → put_of d at w ≡ leaves (Written (at + length w)) (pasted d at w)
+    → put_of d at w ≡ leaves (Ok (at + length w)) (pasted d at w)
 
 -- of bytes that do not fit the length is told, and the buffer stays as it was
 abbrev pub KeptWithoutRoom : Type 0
-KeptWithoutRoom = (d : List ℕ) (at : ℕ) (w : List ℕ) → length d < at + length w → put_of d at w ≡ leaves (NoRoom (length w)) d
+KeptWithoutRoom = (d : List ℕ) (at : ℕ) (w : List ℕ) → length d < at + length w → put_of d at w ≡ leaves (Err (record { needed = length w })) d
 
 -- one answer: each promise determines what its function gives
 abbrev pub OneRefused : Type 0

@@ -55,9 +55,11 @@ pub enum Line {
     Stopped { stop: StopWord, consumed: usize },
 }
 
-// Where the next line goes; or how many bytes the line that did not fit has.
-#[derive(Clone, Copy)]
-pub enum Put {
-    Written(usize),
-    NoRoom(usize),
+// A line did not fit: how many bytes it has.
+#[derive(Clone, Copy, PartialEq, Eq)]
+pub struct NoRoom {
+    pub needed: usize,
 }
+
+// Where the next line goes; or that the line did not fit.
+pub type Put = Result<usize, NoRoom>;
