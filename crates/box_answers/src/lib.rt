@@ -51,7 +51,7 @@ fn is_placed(start: u64, event: FileEvent) -> bool {
 pub fn is_repeated(refused: ContainerParser, input: &[u8], first: FileRefusal) -> bool {
     matches!(
         jxl_container::step(refused, input),
-        StepResult::Refused { consumed: 0, refusal, .. } if refusal.total == first.total
+        StepResult::Refused { consumed: 0, refusal, .. } if refusal == first
     )
 }
 
@@ -189,7 +189,7 @@ impl Feed {
         self.steps(file, end)?;
         self.hold(self.is_read(end))?;
         // the kind told on request is the one that an event told
-        self.hold(box_lines::letter(self.parser.kind()) == box_lines::letter(self.told))?;
+        self.hold(self.parser.kind() == self.told)?;
         self.put(Token::PacketEnd(self.consumed))
     }
 }
@@ -199,7 +199,7 @@ pub fn whole(alloc: Global, file: &[u8], cuts: &[u8]) -> Result<Feed, AllocError
     let mut feed = Feed::new(alloc, ContainerParser::new());
     let mut end = 0usize;
     for cut in cuts.split(|b| *b == b',') {
-        end = end.wrapping_add(replay_text::parse_decimal(cut, 0).value as usize);
+        end = end.wrapping_add(replay_text::leading_number(cut, 10).0 as usize);
         feed.packet(file, end)?;
         if feed.refusal.is_some() {
             break;

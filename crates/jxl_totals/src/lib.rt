@@ -20,7 +20,7 @@ pub struct ContainerParser {
 
 // A refusal: the rule that broke, the bytes consumed then, and the place that it names: the first byte of the header that it
 // concerns, or, with none, the bytes consumed.
-#[derive(Clone, Copy)]
+#[derive(Clone, Copy, Debug, PartialEq, Eq)]
 pub struct FileRefusal {
     pub rule: BoxRefusal,
     pub total: u64,
