@@ -18,73 +18,65 @@ use jxl_headers::{BytesLeft, box_header};
 use jxl_impossible::is_impossible;
 use jxl_jxlp::{jxlp_step, refuse_box};
 use jxl_payload_starts::index_step;
-use jxl_payloads::{BoxResult, refuse};
+use jxl_payloads::{BoxResult, Payload, refuse};
 use jxl_record::{BitstreamKind, BoxParser, DetectState, JxlpIndexState};
 use jxl_refusals::BoxRefusal;
 
-// A `jxlc` payload at `at`.
-fn jxlc_step(jxlp: JxlpIndexState, left: BytesLeft, s: &[u8], at: usize) -> BoxResult
-    ensures { told result ≡ numbered (Spec.ahead at (Spec.jxlc_step jxlp left (drop at s.now))) }
+// A `jxlc` payload.
+fn jxlc_step(jxlp: JxlpIndexState, payload: Payload<'_>) -> BoxResult
+    ensures { told result ≡ numbered (Spec.ahead payload.entry.at (Spec.jxlc_step jxlp payload.entry.left (drop payload.entry.at payload.entry.input.now))) }
 {
+    let at = payload.at;
     match jxlp {
         JxlpIndexState::Initial => code_step(
             JxlpIndexState::SingleJxlc,
             BitstreamKind::Container,
-            left,
-            left.to_end(),
-            s,
-            at,
+            payload.left.to_end(),
+            payload,
         ),
-        JxlpIndexState::SingleJxlc => {
-            refuse_box(BoxRefusal::SecondJxlc, JxlpIndexState::SingleJxlc, at)
-        },
-        JxlpIndexState::Jxlp(i) => {
-            refuse_box(BoxRefusal::JxlcAfterJxlp, JxlpIndexState::Jxlp(i), at)
-        },
-        JxlpIndexState::JxlpFinished => {
-            refuse_box(BoxRefusal::JxlcAfterJxlp, JxlpIndexState::JxlpFinished, at)
-        },
+        JxlpIndexState::SingleJxlc => refuse_box(BoxRefusal::SecondJxlc, jxlp, at),
+        JxlpIndexState::Jxlp(_) | JxlpIndexState::JxlpFinished => {
+            refuse_box(BoxRefusal::JxlcAfterJxlp, jxlp, at)
+        }
     }
 }
 
 // A `brob` box behind its header.
-fn brob_step(jxlp: JxlpIndexState, left: BytesLeft, s: &[u8], at: usize) -> BoxResult
-    ensures { told result ≡ numbered (Spec.ahead at (Spec.brob_step jxlp left (drop at s.now))) }
+fn brob_step(jxlp: JxlpIndexState, payload: Payload<'_>) -> BoxResult
+    ensures { told result ≡ numbered (Spec.ahead payload.entry.at (Spec.brob_step jxlp payload.entry.left (drop payload.entry.at payload.entry.input.now))) }
 {
-    if left.under(4) {
-        return refuse_box(BoxRefusal::BrobTooSmall, jxlp, at);
+    if payload.left.under(4) {
+        return refuse_box(BoxRefusal::BrobTooSmall, jxlp, payload.at);
     }
-    inner_step(jxlp, left, s, at)
+    inner_step(jxlp, payload)
 }
 
 // A box of type `ty` behind its header.
-fn box_step(jxlp: JxlpIndexState, ty: u32, left: BytesLeft, s: &[u8], at: usize) -> BoxResult
+#[tactic(auto, using(jxl_grammar::proofs::Step::box_jxlc, jxl_grammar::proofs::Step::box_jxlp, jxl_grammar::proofs::Step::box_brob, jxl_grammar::proofs::Step::box_aux))]
+fn box_step(jxlp: JxlpIndexState, ty: u32, payload: Payload<'_>) -> BoxResult
     requires { over_index jxlp ≡ false }
-    ensures { told result ≡ numbered (Spec.ahead at (Spec.box_step jxlp ty left (drop at s.now))) }
+    ensures { told result ≡ numbered (Spec.ahead payload.entry.at (Spec.box_step jxlp ty payload.entry.left (drop payload.entry.at payload.entry.input.now))) }
 {
-    if ty == box_header::CODESTREAM {
-        return jxlc_step(jxlp, left, s, at);
-    }
-    if ty == box_header::PARTIAL_CODESTREAM {
-        return jxlp_step(jxlp, left, s, at);
-    }
-    if ty == box_header::BROTLI_COMPRESSED {
-        return brob_step(jxlp, left, s, at);
-    }
-    BoxResult::Shown {
-        event: ParseEvent::AuxBoxStart {
-            ty,
-            brotli_compressed: false,
-            last_box: left.to_end(),
-        },
-        next: BoxParser::at(
-            DetectState::InAuxBox {
+    let Payload { left, at, .. } = payload;
+    match ty {
+        box_header::CODESTREAM => jxlc_step(jxlp, payload),
+        box_header::PARTIAL_CODESTREAM => jxlp_step(jxlp, payload),
+        box_header::BROTLI_COMPRESSED => brob_step(jxlp, payload),
+        _ => BoxResult::Shown {
+            event: ParseEvent::AuxBoxStart {
                 ty,
-                bytes_left: left,
+                brotli_compressed: false,
+                last_box: left.to_end(),
             },
-            jxlp,
-        ),
-        consumed: at,
+            next: BoxParser::at(
+                DetectState::InAuxBox {
+                    ty,
+                    bytes_left: left,
+                },
+                jxlp,
+            ),
+            consumed: at,
+        },
     }
 }
 
@@ -104,9 +96,12 @@ fn header_step(jxlp: JxlpIndexState, s: &[u8]) -> BoxResult
             header,
             header_size,
         } => {
-            let ty = header.ty;
-            let left = header.box_size;
-            box_step(jxlp, ty, left, s, header_size)
+            let payload = Payload {
+                left: header.box_size,
+                input: s,
+                at: header_size,
+            };
+            box_step(jxlp, header.ty, payload)
         }
     }
 }
@@ -117,10 +112,17 @@ fn awaited(jxlp: JxlpIndexState) -> u32
 {
     match jxlp {
         JxlpIndexState::Jxlp(i) => i,
-        JxlpIndexState::Initial => 0,
-        JxlpIndexState::SingleJxlc => 0,
-        JxlpIndexState::JxlpFinished => 0,
+        _ => 0,
     }
+}
+
+// A payload that the input starts with.
+fn here(left: BytesLeft, input: &[u8]) -> Payload<'_>
+    ensures reach { result.left ≡ left }
+    ensures bytes { result.input.now ≡ input.now }
+    ensures start { result.at ≡ 0 }
+{
+    Payload { left, input, at: 0 }
 }
 
 // A step by the record's state, with input there.
@@ -128,23 +130,21 @@ fn state_step(p: BoxParser, s: &[u8]) -> BoxResult
     requires { impossible p ≡ false }
     ensures { told result ≡ numbered (Spec.state_step p.state p.jxlp s.now) }
 {
-    let state = p.state;
     let jxlp = p.jxlp;
-    match state {
+    match p.state {
         DetectState::WaitingSignature => signature_step(jxlp, s),
         DetectState::WaitingBoxHeader => header_step(jxlp, s),
-        DetectState::WaitingJxlpIndex(left) => index_step(awaited(jxlp), left, s, 0),
-        DetectState::WaitingInnerType(left) => inner_step(jxlp, left, s, 0),
-        DetectState::InAuxBox {
-            ty,
-            bytes_left: left,
-        } => jxl_payloads::aux_step(jxlp, ty, left, s.len()),
+        DetectState::WaitingJxlpIndex(left) => index_step(awaited(jxlp), here(left, s)),
+        DetectState::WaitingInnerType(left) => inner_step(jxlp, here(left, s)),
+        DetectState::InAuxBox { ty, bytes_left } => {
+            jxl_payloads::aux_step(jxlp, ty, bytes_left, s.len())
+        }
         DetectState::InCodestream {
             kind,
-            bytes_left: left,
+            bytes_left,
             pending_no_more_aux_box,
-        } => code_step(jxlp, kind, left, pending_no_more_aux_box, s, 0),
-        DetectState::Refused { kind: _, refusal } => BoxResult::Refused {
+        } => code_step(jxlp, kind, pending_no_more_aux_box, here(bytes_left, s)),
+        DetectState::Refused { refusal, .. } => BoxResult::Refused {
             refusal,
             next: p,
             consumed: 0,
@@ -153,6 +153,7 @@ fn state_step(p: BoxParser, s: &[u8]) -> BoxResult
 }
 
 // One step of the parser on the input.
+#[tactic(auto, using(jxl_grammar::proofs::Step::step_impossible, jxl_grammar::proofs::Step::step_state))]
 pub fn step(parser: BoxParser, input: &[u8]) -> BoxResult
     ensures { told result ≡ numbered (Spec.step_of parser input.now) }
 {

@@ -51,44 +51,17 @@ fn kind_step(kind: BitstreamKind, jxlp: JxlpIndexState) -> BoxResult
 }
 
 // A step on an empty input: WANT, except in a refused parser.
+#[tactic(auto, using(jxl_grammar::proofs::Step::step_empty, jxl_grammar::proofs::Step::step_empty_refused))]
 pub fn empty_step(p: BoxParser) -> BoxResult
     ensures { told result ≡ numbered (Spec.step_of p []) }
 {
-    let state = p.state;
-    match state {
-        DetectState::WaitingSignature => BoxResult::Want {
-            next: p,
-            consumed: 0,
-        },
-        DetectState::WaitingBoxHeader => BoxResult::Want {
-            next: p,
-            consumed: 0,
-        },
-        DetectState::WaitingJxlpIndex(_) => BoxResult::Want {
-            next: p,
-            consumed: 0,
-        },
-        DetectState::WaitingInnerType(_) => BoxResult::Want {
-            next: p,
-            consumed: 0,
-        },
-        DetectState::InAuxBox {
-            ty: _,
-            bytes_left: _,
-        } => BoxResult::Want {
-            next: p,
-            consumed: 0,
-        },
-        DetectState::InCodestream {
-            kind: _,
-            bytes_left: _,
-            pending_no_more_aux_box: _,
-        } => BoxResult::Want {
-            next: p,
-            consumed: 0,
-        },
-        DetectState::Refused { kind: _, refusal } => BoxResult::Refused {
+    match p.state {
+        DetectState::Refused { refusal, .. } => BoxResult::Refused {
             refusal,
+            next: p,
+            consumed: 0,
+        },
+        _ => BoxResult::Want {
             next: p,
             consumed: 0,
         },

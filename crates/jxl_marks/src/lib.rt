@@ -10,66 +10,30 @@ ghost use Rattle.jxl_totals.specs.Step as Spec;
 use jxl_record::{BoxParser, DetectState};
 use jxl_refusals::BoxRefusal;
 
-// How many bytes the file may still have.
-fn room(total: u64) -> u64
-    ensures { result ≡ Spec.limit - total }
-{
-    if total <= 0x7fff_ffff_ffff_ffff {
-        0x7fff_ffff_ffff_ffff - total
-    } else {
-        0
-    }
-}
-
 // How many of `n` bytes of input are there. Far from the limit, where every file is, two quick tests tell; without them a step takes up
 // to a fifth longer.
 pub fn visible(total: u64, n: usize) -> usize
     ensures { result ≡ min n (Spec.limit - total) }
 {
-    if n <= 0x7fff_ffff {
-        if total <= 0x7fff_ffff_0000_0000 {
-            return n;
-        }
+    if n <= 0x7fff_ffff && total <= 0x7fff_ffff_0000_0000 {
+        return n;
     }
-    let most = room(total);
-    if n as u64 <= most { n } else { most as usize }
+    let room = 0x7fff_ffff_ffff_ffff_u64.saturating_sub(total);
+    n.min(room as usize)
 }
 
 // Whether the next step starts at a header.
 pub fn at_header(p: BoxParser) -> bool
     ensures { result ≡ Spec.at_header p }
 {
-    let state = p.state;
-    match state {
-        DetectState::WaitingSignature => false,
-        DetectState::WaitingBoxHeader => true,
-        DetectState::WaitingJxlpIndex(_) => false,
-        DetectState::WaitingInnerType(_) => false,
-        DetectState::InAuxBox {
-            ty: _,
-            bytes_left: _,
-        } => false,
-        DetectState::InCodestream {
-            kind: _,
-            bytes_left: _,
-            pending_no_more_aux_box: _,
-        } => false,
-        DetectState::Refused {
-            kind: _,
-            refusal: _,
-        } => false,
-    }
+    matches!(p.state, DetectState::WaitingBoxHeader)
 }
 
 // The newest header behind a step that consumes `n` bytes.
 pub fn newest(starts: bool, n: usize, total: u64, header: u64) -> u64
     ensures { result ≡ if (and starts (ltb 0 n)) total header }
 {
-    if starts {
-        if n == 0 { header } else { total }
-    } else {
-        header
-    }
+    if starts && 0 < n { total } else { header }
 }
 
 // The newest header behind a step that was refused: it was looked at, though nothing of it is consumed.
@@ -85,22 +49,8 @@ pub fn place(rule: BoxRefusal, total: u64, header: u64) -> u64
 {
     match rule {
         BoxRefusal::ImpossibleRecord => total,
-        BoxRefusal::StreamLimit => total,
-        BoxRefusal::CutShort => total,
-        BoxRefusal::Closed => total,
-        BoxRefusal::ShortSize => header,
-        BoxRefusal::ExtendedSize => header,
-        BoxRefusal::SecondJxlc => header,
-        BoxRefusal::JxlcAfterJxlp => header,
-        BoxRefusal::JxlpTooSmall => header,
-        BoxRefusal::JxlpAfterJxlc => header,
-        BoxRefusal::JxlpAfterLast => header,
-        BoxRefusal::WrongIndex {
-            found: _,
-            expected: _,
-        } => header,
-        BoxRefusal::BrobTooSmall => header,
-        BoxRefusal::ValidationFailed => header,
+        BoxRefusal::StreamLimit | BoxRefusal::CutShort | BoxRefusal::Closed => total,
+        _ => header,
     }
 }
 
@@ -108,23 +58,5 @@ pub fn place(rule: BoxRefusal, total: u64, header: u64) -> u64
 pub fn is_closed(rule: BoxRefusal) -> bool
     ensures { result ≡ is_closed rule }
 {
-    match rule {
-        BoxRefusal::ShortSize => false,
-        BoxRefusal::ExtendedSize => false,
-        BoxRefusal::SecondJxlc => false,
-        BoxRefusal::JxlcAfterJxlp => false,
-        BoxRefusal::JxlpTooSmall => false,
-        BoxRefusal::JxlpAfterJxlc => false,
-        BoxRefusal::JxlpAfterLast => false,
-        BoxRefusal::WrongIndex {
-            found: _,
-            expected: _,
-        } => false,
-        BoxRefusal::BrobTooSmall => false,
-        BoxRefusal::ImpossibleRecord => false,
-        BoxRefusal::ValidationFailed => false,
-        BoxRefusal::StreamLimit => false,
-        BoxRefusal::CutShort => false,
-        BoxRefusal::Closed => true,
-    }
+    rule == BoxRefusal::Closed
 }

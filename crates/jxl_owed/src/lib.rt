@@ -11,8 +11,8 @@ use jxl_events::ParseEvent;
 use jxl_headers::BytesLeft;
 use jxl_record::{BitstreamKind, BoxParser, DetectState, JxlpIndexState};
 
-// What an end comes to.
-#[derive(Clone, Copy)]
+// What an end comes to. Not a Result of an Option: its three cases are those of the definition, each by its name.
+#[derive(Clone, Copy, Debug, PartialEq, Eq)]
 pub enum Close {
     Missing,
     Owes(ParseEvent),
@@ -45,60 +45,26 @@ fn code_owes(left: BytesLeft, pending: bool) -> Close
     ensures { told_close result ≡ Spec.code_owes left pending 0 }
 {
     match left {
-        BytesLeft::ToEnd => {
-            if pending {
-                Close::Owes(ParseEvent::NoMoreAuxBox)
-            } else {
-                Close::Nothing
-            }
-        }
+        BytesLeft::ToEnd if pending => Close::Owes(ParseEvent::NoMoreAuxBox),
+        BytesLeft::ToEnd => Close::Nothing,
         BytesLeft::Bytes(n) => owes_whole(n, ParseEvent::Codestream { at: 0, len: 0 }),
     }
 }
 
-// What is owed by what the parser waits for, or is inside of.
+// What is owed by what the parser waits for, or is inside of: what is left of a box; between two boxes nothing. A signature, an index or an
+// inner type is missing, and a refused parser gives no more.
 fn state_owes(state: DetectState) -> Close
     ensures { told_close result ≡ Spec.state_owes state }
 {
     match state {
-        DetectState::WaitingSignature => Close::Missing,
         DetectState::WaitingBoxHeader => Close::Nothing,
-        DetectState::WaitingJxlpIndex(_) => Close::Missing,
-        DetectState::WaitingInnerType(_) => Close::Missing,
         DetectState::InAuxBox { ty, bytes_left } => aux_owes(ty, bytes_left),
         DetectState::InCodestream {
-            kind: _,
             bytes_left,
             pending_no_more_aux_box,
+            ..
         } => code_owes(bytes_left, pending_no_more_aux_box),
-        DetectState::Refused {
-            kind: _,
-            refusal: _,
-        } => Close::Missing,
-    }
-}
-
-// Whether the kind is not told yet.
-fn unknown(kind: BitstreamKind) -> bool
-    ensures { result ≡ Spec.unknown kind }
-{
-    match kind {
-        BitstreamKind::Unknown => true,
-        BitstreamKind::BareCodestream => false,
-        BitstreamKind::Container => false,
-        BitstreamKind::Invalid => false,
-    }
-}
-
-// Whether a row of `jxlp` still has no last one.
-fn row_open(row: JxlpIndexState) -> bool
-    ensures { result ≡ Spec.row_open row }
-{
-    match row {
-        JxlpIndexState::Initial => false,
-        JxlpIndexState::SingleJxlc => false,
-        JxlpIndexState::Jxlp(_) => true,
-        JxlpIndexState::JxlpFinished => false,
+        _ => Close::Missing,
     }
 }
 
@@ -106,20 +72,18 @@ fn row_open(row: JxlpIndexState) -> bool
 fn all_read(p: BoxParser) -> Close
     ensures { told_close result ≡ Spec.close_of p [] }
 {
-    let row = p.jxlp;
-    let state = p.state;
-    let owed = state_owes(state);
-    if unknown(p.kind()) || row_open(row) {
+    if p.kind() == BitstreamKind::Unknown || matches!(p.jxlp, JxlpIndexState::Jxlp(_)) {
         return Close::Missing;
     }
-    owed
+    state_owes(p.state)
 }
 
 // What an end comes to.
+#[tactic(auto, using(crate::proofs::Unread::some_unread, crate::proofs::Unread::none_unread))]
 pub fn close_of(p: BoxParser, unread: &[u8]) -> Close
     ensures { told_close result ≡ Spec.close_of p unread.now }
 {
-    if unread.len() == 0 {
+    if unread.is_empty() {
         all_read(p)
     } else {
         Close::Missing
