@@ -63,7 +63,10 @@ fn measure(file: &[u8]) -> usize
             }
             Err(stop) => {
                 let consumed = then.parser.total as usize;
-                return sum.saturating_add(jxl_lengths::line_length(Line::Stopped { stop, consumed }));
+                return sum.saturating_add(jxl_lengths::line_length(Line::Stopped {
+                    stop,
+                    consumed,
+                }));
             }
         }
     }

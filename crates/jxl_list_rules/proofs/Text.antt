@@ -41,6 +41,7 @@ use Rattle.jxl_lines.specs.declared.Line.TheVariants as L
 use Rattle.jxl_lines.specs.declared.Put.TheVariants.{Written, NoRoom}
 use Rattle.jxl_lines.specs.declared.StopWord.{StopWord}
 use Rattle.jxl_lines.specs.declared.StopWord.TheVariants as S
+use Rattle.jxl_list_rules.specs.declared.AfterStep.{AfterStep}
 use Rattle.jxl_list_rules.specs.Listed.{texts, lines_of, listing_text, file_text, in_files, end_text, next_end, next_in, next_of, list_of}
 
 -- what a step that tells an event counts
@@ -202,8 +203,8 @@ module _ (p : ContainerParser) (f : List ℕ) (w : Stop) (r : ContainerParser) (
 
 module _ (p : ContainerParser) (f : List ℕ) where
   -- an event's line, and the rest
-  pub following_shown : p.total ≤ length f → {e : ParseEvent} → (next_of p (drop p.total f)).answer ≡ Ok e → Follows p f e (next_of p (drop p.total f)).parser
-  following_shown h {e} n = go (step_of p (drop p.total f)) refl n
+  pub following_shown : p.total ≤ length f → {n : AfterStep} {e : ParseEvent} → n ≡ next_of p (drop p.total f) → n.answer ≡ Ok e → Follows p f e n.parser
+  following_shown h {n} {e} so = subst (λ (x : AfterStep). x.answer ≡ Ok e → Follows p f e x.parser) (sym so) (go (step_of p (drop p.total f)) refl)
     where
       go : (t : Told) → step_of p (drop p.total f) ≡ t → (next_in (drop p.total f) t).answer ≡ Ok e → Follows p f e (next_in (drop p.total f) t).parser
       go (shows d r c) st n =
@@ -226,9 +227,10 @@ module _ (p : ContainerParser) (f : List ℕ) where
           ended_shown p f (Feeding.refused x) r c (take_is (ends st)) (refuses_counts p (drop p.total f) st).0 (refuses_fits p f p.total h st) n
 
   -- the stop's line, and nothing more
-  pub following_stopped : p.total ≤ length f → {w : StopWord} → (next_of p (drop p.total f)).answer ≡ Err w
-      → Rest p f ≡ text (L.Stopped w (next_of p (drop p.total f)).parser.total)
-  following_stopped h {w} n = go (step_of p (drop p.total f)) refl n
+  pub following_stopped : p.total ≤ length f → {n : AfterStep} {w : StopWord} → n ≡ next_of p (drop p.total f) → n.answer ≡ Err w
+      → Rest p f ≡ text (L.Stopped w n.parser.total)
+  following_stopped h {n} {w} so =
+      subst (λ (x : AfterStep). x.answer ≡ Err w → Rest p f ≡ text (L.Stopped w x.parser.total)) (sym so) (go (step_of p (drop p.total f)) refl)
     where
       go : (t : Told) → step_of p (drop p.total f) ≡ t → (next_in (drop p.total f) t).answer ≡ Err w
           → Rest p f ≡ text (L.Stopped w (next_in (drop p.total f) t).parser.total)
