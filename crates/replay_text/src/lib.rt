@@ -23,6 +23,11 @@ pub fn split_once(text: &[u8], b: u8) -> Option<(&[u8], &[u8])>
     Some((&text[..at], &text[at + 1..]))
 }
 
+// What stands behind the first `count` bytes.
+pub fn skip(text: &[u8], count: usize) -> &[u8] {
+    text.get(count..).unwrap_or(b"")
+}
+
 // The lines of a text, without their line ends. Behind the last line end there is no line.
 #[derive(Drop)]
 pub struct TextLines<'a>(&'a [u8]);
@@ -47,18 +52,23 @@ impl<'a> Iterator for TextLines<'a> {
 }
 
 // What a digit counts. Of the letters only the small ones are digits.
-fn digit_of(b: u8) -> Option<u64> {
+pub fn digit_of(b: u8) -> Option<u8>
+    ensures { IfSome result (λ d. d < 16) }
+{
     match b {
-        b'0'..=b'9' => Some(u64::from(b - b'0')),
-        b'a'..=b'f' => Some(u64::from(b - b'a') + 10),
+        b'0'..=b'9' => Some(b - b'0'),
+        b'a'..=b'f' => Some(b - b'a' + 10),
         _ => None,
     }
 }
 
 // A number with one more digit, where that is one and 64 bits hold it.
 fn append_digit(value: u64, radix: u64, b: u8) -> Option<u64> {
-    let d = digit_of(b).filter(|d| *d < radix)?;
-    value.checked_mul(radix)?.checked_add(d)
+    let digit = u64::from(digit_of(b)?);
+    if radix <= digit {
+        return None;
+    }
+    value.checked_mul(radix)?.checked_add(digit)
 }
 
 // The number that a text begins with, of as many digits as are there and fit in 64 bits, and what stands behind it.

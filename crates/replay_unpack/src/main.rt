@@ -2,7 +2,7 @@
 // the first lines that differ, then the counts.
 #![tactic(auto)]
 
-use replay_text::{Tally, leading_number, lines, read_input};
+use replay_text::{Tally, leading_number, lines, read_input, skip};
 use std::io;
 
 // The bytes of a list that are read, at most.
@@ -29,12 +29,11 @@ fn unpacked(line: &[u8], packed: u64) -> Option<i64> {
 
 // Whether the line's answer is the code's.
 fn is_same(line: &[u8]) -> bool {
-    let (packed, behind) = leading_number(line.get(3..).unwrap_or(b""), 16);
-    let told = behind.get(1..).unwrap_or(b"");
+    let (packed, behind) = leading_number(skip(line, 3), 16);
     let Some(answer) = unpacked(line, packed) else {
         return false;
     };
-    told_number(told) == Some(answer)
+    told_number(skip(behind, 1)) == Some(answer)
 }
 
 fn main(rt: HostRuntime) -> io::Result<()> {
