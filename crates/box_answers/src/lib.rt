@@ -198,7 +198,7 @@ impl Feed {
 pub fn whole(alloc: Global, file: &[u8], cuts: &[u8]) -> Result<Feed, AllocError> {
     let mut feed = Feed::new(alloc, ContainerParser::new());
     let mut end = 0usize;
-    for cut in cuts.split(|b| *b == b',') {
+    for cut in cuts.split_inclusive(|b| *b == b',') {
         end = end.wrapping_add(replay_text::leading_number(cut, 10).0 as usize);
         feed.packet(file, end)?;
         if feed.refusal.is_some() {

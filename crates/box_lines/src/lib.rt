@@ -8,6 +8,10 @@ use std::fmt;
 use jxl_events::ParseEvent;
 use jxl_record::BitstreamKind;
 use jxl_refusals::BoxRefusal;
+use replay_text::leading_number;
+
+// The bytes of a file, at most. The token of its end counts with them.
+pub const FILE_MOST: usize = 128;
 
 // A token of a line.
 #[derive(Clone, Copy)]
@@ -96,13 +100,15 @@ pub fn hold(line: &mut String, is_kept: bool) -> Result<(), AllocError> {
     put(line, Token::Broken)
 }
 
-// The byte that two digits of hex tell.
+// The byte that two digits of hex tell; 0 for one that stands alone.
 fn byte(digits: &[u8]) -> u8 {
-    let (value, _) = replay_text::leading_number(digits, 16);
-    (value & 0xff) as u8
+    match digits {
+        [_, _] => (leading_number(digits, 16).0 & 0xff) as u8,
+        _ => 0,
+    }
 }
 
-// The bytes that a text of hex tells.
+// The bytes that a text of hex tells, as far as a file of the lists goes.
 pub fn file(alloc: Global, hex: &[u8]) -> Result<Vec<u8>, AllocError> {
-    hex.chunks(2).map(byte).collect(alloc)
+    hex.chunks(2).take(FILE_MOST).map(byte).collect(alloc)
 }

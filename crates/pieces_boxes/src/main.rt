@@ -16,13 +16,13 @@ mod ends;
 // The bytes of the list that are read, at most.
 const INPUT_MOST: u64 = 16_384;
 
-// Prints what a feed answered, and the record that it left.
+// Prints what a feed answered, 256 bytes of it at most, and the record that it left.
 fn print_feed(rt: &impl Print, name: &str, feed: &Feed) -> io::Result<()> {
     let record = Record {
         parser: feed.parser,
         place: feed.refusal.map_or(0, |refusal| refusal.place),
     };
-    println!(rt; "  {name}: {} {record}", feed.answer)
+    println!(rt; "  {name}: {:.256} {record}", feed.answer)
 }
 
 // Feeds the file to the record, prints what that gives, and answers the feed behind it.
@@ -49,10 +49,10 @@ fn piece(rt: &(impl Print + AllocGlobal), parser: ContainerParser, file: &[u8]) 
     Ok(())
 }
 
-// Runs `STATE LEFT BOXES TOTAL HEX WORD` by the word behind the file: none; or for a piece of the end, `.` for a record that is ended at
+// Runs ` STATE LEFT BOXES TOTAL HEX WORD` by the word behind the file: none; or for a piece of the end, `.` for a record that is ended at
 // once, `+` for one that is ended behind one step, else the length of the first of two packets.
 fn run(rt: &(impl Print + AllocGlobal), told: &[u8]) -> io::Result<()> {
-    let mut words = told.split(|b| *b == b' ');
+    let mut words = told.splitn(7, |b| *b == b' ').skip(1);
     let mut word = || words.next().unwrap_or(b"");
     let parser = box_records::parser(word(), word(), word(), word());
     let bytes = box_lines::file(rt.alloc(), word())?;
@@ -65,7 +65,7 @@ fn run(rt: &(impl Print + AllocGlobal), told: &[u8]) -> io::Result<()> {
     }
 }
 
-// One line of the list: `NAME: PIECE`, printed as far as its name and run; any other line is a heading.
+// One line of the list: `NAME:` and a piece, printed as far as its name and run; any other line is a heading.
 fn take_line(rt: &(impl Print + AllocGlobal), line: &[u8]) -> io::Result<()> {
     let (name, told) = match split_once(line, b':') {
         Some((name, told)) => (name, Some(told)),
@@ -75,7 +75,7 @@ fn take_line(rt: &(impl Print + AllocGlobal), line: &[u8]) -> io::Result<()> {
     out.write_all(name)?;
     out.write_all(b"\n")?;
     if let Some(told) = told {
-        run(rt, told.get(1..).unwrap_or(b""))?;
+        run(rt, told)?;
     }
     Ok(())
 }

@@ -6,10 +6,14 @@
 use std::alloc::{AllocError, Global};
 use std::io;
 
+use box_lines::FILE_MOST;
 use replay_text::{Tally, lines, read_input, split_once};
 
 // The bytes of the list that are read, at most.
 const INPUT_MOST: u64 = 1_048_576;
+
+// The bytes of a feeding's answers that are compared, at most.
+const ANSWERS_MOST: usize = 1024;
 
 // A token with the refusals 10 to 19 merged into 1, since the Rust does not tell them apart.
 fn merged(token: &[u8]) -> &[u8] {
@@ -21,7 +25,8 @@ fn merged(token: &[u8]) -> &[u8] {
 
 // Whether the answers of a feeding are the line's EVENTS.
 fn is_told(answers: &[u8], told: &[u8]) -> bool {
-    answers
+    let compared = answers.get(..ANSWERS_MOST).unwrap_or(answers);
+    compared
         .split(|b| *b == b' ')
         .map(merged)
         .eq(told.split(|b| *b == b' '))
@@ -62,6 +67,20 @@ fn behind_letter(line: &[u8]) -> &[u8] {
     line.get(2..).unwrap_or(b"")
 }
 
+// The token of a file's end in its line `e`, as far as there is room for it with the file.
+fn token_of<'t>(line: &'t [u8], file: &[u8]) -> &'t [u8] {
+    let token = behind_letter(line);
+    let room = FILE_MOST.saturating_sub(file.len());
+    token.get(..room).unwrap_or(token)
+}
+
+// The two sides of a line `CUTS = EVENTS`.
+fn cuts_and_events(line: &[u8]) -> (&[u8], &[u8]) {
+    let (before, behind) = split_once(line, b'=').unwrap_or((line, b""));
+    let cuts = before.split_last().map_or(before, |(_, cuts)| cuts);
+    (cuts, behind.get(1..).unwrap_or(b""))
+}
+
 // Goes through the list, line by line: a new file, whose end is not told yet; what the end of the newest comes to; or a feeding of it,
 // `CUTS = EVENTS`, whose answers are as many as its events, which single spaces part, and one more for its end.
 fn main(rt: HostRuntime) -> io::Result<()> {
@@ -77,10 +96,9 @@ fn main(rt: HostRuntime) -> io::Result<()> {
                 file = box_lines::file(rt.alloc(), behind_letter(line))?;
                 token = b"";
             }
-            [b'e', ..] => token = behind_letter(line),
+            [b'e', ..] => token = token_of(line, &file),
             _ => {
-                let (cuts, behind) = split_once(line, b'=').unwrap_or((line, b""));
-                let told = behind.get(1..).unwrap_or(b"");
+                let (cuts, told) = cuts_and_events(line);
                 let count = told.split(|b| *b == b' ').count() as u64;
                 answers = answers.saturating_add(count).saturating_add(1);
                 tally.compare(&rt, agrees(rt.alloc(), cuts, told, &file, token)?)?;
