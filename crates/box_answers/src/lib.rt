@@ -1,13 +1,12 @@
 // What feeding a file to the parser in packets shows, each behind the bytes that the feeds before left unread, as tokens of the stored lists.
 #![tactic(auto)]
 
-use std::alloc::{AllocError, Global};
-
 use box_lines::Token;
 use jxl_container::{
     BitstreamKind, BoxRefusal, ContainerParser, FileEvent, FileRefusal, ParseEvent, StepResult,
 };
 use jxl_slices::part;
+use std::alloc::{AllocError, Global};
 
 // A feed: its answer so far, the record, the record's total at the start and the bytes consumed since, counted here, the kind that an event
 // told, and where the last step refused, or answered Closed, that refusal.
@@ -189,7 +188,8 @@ impl Feed {
         self.steps(file, end)?;
         self.hold(self.is_read(end))?;
         // the kind told on request is the one that an event told
-        self.hold(self.parser.kind() == self.told)?;
+        let told = self.told;
+        self.hold(self.parser.kind() == told)?;
         self.put(Token::PacketEnd(self.consumed))
     }
 }

@@ -2,11 +2,10 @@
 // rule that the lists do not spell out.
 #![tactic(auto)]
 
-use std::alloc::AllocError;
-
 use box_answers::{Feed, is_repeated};
 use box_lines::Token;
 use jxl_container::{BoxRefusal, ContainerParser, EndResult, FileEvent, FileRefusal, StepResult};
+use std::alloc::AllocError;
 
 // A file that a new parser would take.
 const FILE: &[u8] = b"\xff\x0a";

@@ -2,13 +2,12 @@
 // lists and that run the pieces.
 #![tactic(auto)]
 
-use std::alloc::{AllocError, Global};
-use std::fmt;
-
 use jxl_events::ParseEvent;
 use jxl_record::BitstreamKind;
 use jxl_refusals::BoxRefusal;
 use replay_text::leading_number;
+use std::alloc::{AllocError, Global};
+use std::fmt;
 
 // The bytes of a file, at most. The token of its end counts with them.
 pub const FILE_MOST: usize = 128;

@@ -2,13 +2,12 @@
 // the total; and one printed behind the answers that led to it.
 #![tactic(auto)]
 
-use std::fmt;
-
 use jxl_headers::BytesLeft;
 use jxl_record::{BitstreamKind, BoxParser, DetectState, JxlpIndexState};
 use jxl_refusals::BoxRefusal;
 use jxl_totals::ContainerParser;
 use replay_text::leading_number;
+use std::fmt;
 
 // `e` is to the end, else a number of bytes.
 fn bytes_left(word: &[u8]) -> BytesLeft {

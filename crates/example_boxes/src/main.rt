@@ -1,11 +1,10 @@
 // Lists the boxes of a small file that comes in two packets and then ends, as a user of the container would.
 #![tactic(auto)]
 
-use std::io;
-use std::io::Write;
-
 use jxl_container::{ContainerParser, FileEvent, StepResult};
 use jxl_lines::{Line, StopWord};
+use std::io;
+use std::io::Write;
 
 // Prints a line of the listing, which has at most 56 bytes.
 #[tactic(auto, using(jxl_lines::proofs::Putting::put_within))]

@@ -1,10 +1,9 @@
 // Feeds and ends a parser that lies in a local: it is lent by `&mut`, and each call changes it in place.
 #![tactic(auto)]
 
-use std::io;
-
 use jxl_container::ContainerParser;
 use jxl_feed::Fed;
+use std::io;
 
 // Prints what a step answers, and how many bytes it consumed.
 fn print(rt: &impl Print, fed: Fed) -> io::Result<()> {

@@ -1,9 +1,8 @@
 // Pieces of the end: what the end call comes to behind a feed, and what the record that it leaves answers then.
-use std::io;
-
 use box_answers::Feed;
 use box_records::Record;
 use jxl_container::{ContainerParser, EndResult};
+use std::io;
 
 // Prints the answers of a feed, the last of which is that of its end, and the record that the end left.
 fn print_ended(rt: &impl Print, name: &str, feed: &Feed, ended: EndResult) -> io::Result<()> {

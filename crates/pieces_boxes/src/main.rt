@@ -3,13 +3,12 @@
 // codestream boxes, total and newest header, and of a record that takes no more the text that says why and the place that it names.
 #![tactic(auto)]
 
-use std::io;
-use std::io::Write;
-
 use box_answers::Feed;
 use box_records::Record;
 use jxl_container::ContainerParser;
 use replay_text::{leading_number, lines, read_input, split_once};
+use std::io;
+use std::io::Write;
 
 mod ends;
 

@@ -3,11 +3,10 @@
 // with what the judge says in the file's line `e`. Prints the numbers of the first lines that differ, then the counts.
 #![tactic(auto)]
 
-use std::alloc::{AllocError, Global};
-use std::io;
-
 use box_lines::FILE_MOST;
 use replay_text::{Tally, lines, read_input, split_once};
+use std::alloc::{AllocError, Global};
+use std::io;
 
 // The bytes of the list that are read, at most.
 const INPUT_MOST: u64 = 1_048_576;
@@ -37,9 +36,7 @@ fn is_told(answers: &[u8], told: &[u8]) -> bool {
 fn is_end(answer: &[u8], token: &[u8]) -> bool {
     match token {
         b"!" => matches!(answer, b"R21"),
-        b"R" => {
-            answer.starts_with(b"R") && !answer.contains(&b' ') && !matches!(answer, b"R21")
-        }
+        b"R" => { answer.starts_with(b"R") && !answer.contains(&b' ') && !matches!(answer, b"R21") }
         _ => answer == token,
     }
 }
@@ -107,7 +104,6 @@ fn main(rt: HostRuntime) -> io::Result<()> {
     }
     println!(rt;
         "{answers} answers in {} feedings and their ends compared, {} feedings differ",
-        tally.compared,
-        tally.differ
+        tally.compared, tally.differ
     )
 }
