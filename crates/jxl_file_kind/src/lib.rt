@@ -21,5 +21,5 @@ pub fn kind_of_file(input: &[u8]) -> BitstreamKind
 pub fn is_container(input: &[u8]) -> bool
     ensures { result ≡ starts container_sig input.now }
 {
-    matches!(kind_of_file(input), BitstreamKind::Container)
+    kind_of_file(input) == BitstreamKind::Container
 }

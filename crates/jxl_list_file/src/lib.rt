@@ -1,12 +1,14 @@
 // The listing of a whole file in memory.
 #![tactic(auto)]
 
-ghost use Rattle.std.specs.Prelude.{◌≡◌, ◌+◌, ◌-◌, ◌^◌, ◌≤◌, min, length, drop};
+ghost use Rattle.std.specs.Prelude.{◌≡◌, ◌+◌, ◌-◌, ◌^◌, ◌≤◌, Some, min, length, drop};
+ghost use Rattle.std.specs.Iterator.{YieldsFirst, item_count};
 ghost use Rattle.jxl_lines.specs.Lines.{text};
 ghost use Rattle.jxl_lines.specs.Pasting.{pasted};
 ghost use Rattle.jxl_lines.specs.Putting.{leaves};
+ghost use Rattle.jxl_totals.specs.Step.{fresh};
 ghost use Rattle.jxl_endings.specs.End.{end_of};
-ghost use Rattle.jxl_list_rules.specs.Listed.{file_text, list_of, next_end, next_of};
+ghost use Rattle.jxl_list_rules.specs.Listed.{file_text, lines_left, list_of, next_end, next_of};
 
 use jxl_container::{ContainerParser, StepResult};
 use jxl_lines::Line;
@@ -14,22 +16,25 @@ use jxl_list_end::next_at_end;
 use jxl_list_rules::AfterStep;
 use jxl_listing::Put;
 
-// What comes next where the parser stopped: what the end call says, made with the bytes behind those consumed, which the record counts.
+// The bytes of the file behind those that the record counts.
+fn behind(parser: ContainerParser, file: &[u8]) -> &[u8]
+    ensures { result.now ≡ drop parser.total file.now }
+{
+    file.get(parser.total as usize..).unwrap_or(&[])
+}
+
+// What comes next where the parser stopped: what the end call says, made with the bytes behind those consumed.
 fn at_end(parser: ContainerParser, file: &[u8]) -> AfterStep
-    requires { parser.total ≤ length file.now }
     ensures { result ≡ next_end (end_of parser (drop parser.total file.now)) }
 {
-    let at = parser.total as usize;
-    next_at_end(parser, &file[at..])
+    next_at_end(parser, behind(parser, file))
 }
 
 // What comes next of the file behind the bytes consumed: an event, or what its end comes to.
 fn next(parser: ContainerParser, file: &[u8]) -> AfterStep
-    requires { parser.total ≤ length file.now }
     ensures { result ≡ next_of parser (drop parser.total file.now) }
 {
-    let at = parser.total as usize;
-    match jxl_container::step(parser, &file[at..]) {
+    match jxl_container::step(parser, behind(parser, file)) {
         StepResult::Shown {
             next,
             consumed: _,
@@ -48,28 +53,58 @@ fn next(parser: ContainerParser, file: &[u8]) -> AfterStep
     }
 }
 
+// The lines of a file's listing that are still to come: from this record on, or none behind the stop's.
+#[derive(Drop)]
+struct Lines<'a> {
+    file: &'a [u8],
+    next: Option<ContainerParser>,
+}
+
+impl<'a> Lines<'a> {
+    // All lines of the file's listing.
+    fn of(file: &'a [u8]) -> Self
+        ensures { (result.file.now ≡ file.now) × (result.next ≡ Some fresh) }
+    {
+        Lines {
+            file,
+            next: Some(ContainerParser::new()),
+        }
+    }
+}
+
+impl<'a> Iterator for Lines<'a> {
+    type Item = Line;
+
+    ghost next_gives = { YieldsFirst (λ s. lines_left s.next s.file.now) };
+
+    ghost remaining = { item_count (λ s. lines_left s.next s.file.now) };
+
+    fn next(&mut self) -> Option<Line> {
+        let parser = self.next?;
+        let then = next(parser, self.file);
+        match then.answer {
+            Ok(event) => {
+                self.next = Some(then.parser);
+                Some(Line::Shown(event))
+            }
+            Err(stop) => {
+                self.next = None;
+                let consumed = then.parser.total as usize;
+                Some(Line::Stopped { stop, consumed })
+            }
+        }
+    }
+}
+
 // How many bytes the listing of the file has, at most the largest number of 64 bits.
 fn measure(file: &[u8]) -> usize
     ensures { result ≡ min (length (file_text file.now)) (2 ^ 64 - 1) }
 {
-    let mut parser = ContainerParser::new();
     let mut sum = 0usize;
-    loop {
-        let then = next(parser, file);
-        match then.answer {
-            Ok(event) => {
-                sum = sum.saturating_add(jxl_lengths::line_length(Line::Shown(event)));
-                parser = then.parser;
-            }
-            Err(stop) => {
-                let consumed = then.parser.total as usize;
-                return sum.saturating_add(jxl_lengths::line_length(Line::Stopped {
-                    stop,
-                    consumed,
-                }));
-            }
-        }
+    for line in Lines::of(file) {
+        sum = sum.saturating_add(jxl_lengths::line_length(line));
     }
+    sum
 }
 
 // Writes the listing of the file, for which there is room, and answers how many bytes it has.
@@ -77,21 +112,11 @@ fn write(file: &[u8], out: &mut [u8]) -> usize
     requires { length (file_text file.now) ≤ length out.old }
     ensures { (result ≡ length (file_text file.now)) × (out.new ≡ pasted out.old 0 (file_text file.now)) }
 {
-    let mut parser = ContainerParser::new();
     let mut written = 0;
-    loop {
-        let then = next(parser, file);
-        match then.answer {
-            Ok(event) => {
-                written = put(out, written, Line::Shown(event));
-                parser = then.parser;
-            }
-            Err(stop) => {
-                let consumed = then.parser.total as usize;
-                return put(out, written, Line::Stopped { stop, consumed });
-            }
-        }
+    for line in Lines::of(file) {
+        written = put(out, written, line);
     }
+    written
 }
 
 // Puts a line for which there is room, and answers where the next one goes.

@@ -37,12 +37,13 @@ use Rattle.jxl_files.proofs.Theorems.{whole_feed, nothing_to_join, whole_file}
 use Rattle.jxl_lines.specs.Lines.{printed, text}
 use Rattle.jxl_lines.specs.Pasting.{pasted}
 use Rattle.jxl_lines.specs.Putting.{leaves}
+use Rattle.jxl_lines.specs.declared.Line.{Line}
 use Rattle.jxl_lines.specs.declared.Line.TheVariants as L
 use Rattle.jxl_lines.specs.declared.Put.TheVariants.{Written, NoRoom}
 use Rattle.jxl_lines.specs.declared.StopWord.{StopWord}
 use Rattle.jxl_lines.specs.declared.StopWord.TheVariants as S
 use Rattle.jxl_list_rules.specs.declared.AfterStep.{AfterStep}
-use Rattle.jxl_list_rules.specs.Listed.{texts, lines_of, listing_text, file_text, in_files, end_text, next_end, next_in, next_of, list_of}
+use Rattle.jxl_list_rules.specs.Listed.{texts, lines_of, shown_lines, end_lines, lines_from, text_of, listing_text, file_text, in_files, end_text, next_end, next_in, next_of, list_of}
 
 -- what a step that tells an event counts
 pub record CountsShown (p q : ContainerParser) (e : FileEvent) (c : ℕ) : Type 0 where
@@ -124,139 +125,104 @@ one_owed (one o t) = refl
 abbrev pub ending_of : Seen → List ℕ → Ended
 ending_of r f = end_of r.next (drop r.consumed f)
 
-abbrev pub seen_text : Seen → List ℕ → List ℕ
-seen_text r f = lines_of (events r) ++ end_text (ending_of r f) r.consumed
-
--- the text of all that is still to come of the file, of which the record's total is consumed, and how many events it has
-abbrev pub Rest : ContainerParser → List ℕ → List ℕ
-Rest p f = seen_text (Feeding.take p (drop p.total f)) f
-
-abbrev pub count_in : ContainerParser → List ℕ → ℕ
-count_in p f = let r = Feeding.take p (drop p.total f) in length (events r ++ owed_by 0 (ending_of r f))
-
--- what comes behind an event that is shown
-pub record Follows (p : ContainerParser) (f : List ℕ) (e : ParseEvent) (q : ContainerParser) : Type 0 where
-  pub text_is : Rest p f ≡ text (L.Shown e) ++ Rest q f
-  pub inside : q.total ≤ length f
-  pub fewer : count_in p f ≡ suc (count_in q f)
+abbrev pub seen_lines : Seen → List ℕ → List Line
+seen_lines r f = shown_lines (without_totals (events r)) ++ end_lines (ending_of r f) r.consumed
 
 -- a record that was ended: nothing but the stop is to come
 module _ (q : ContainerParser) (f : List ℕ) (h : Holds q Rule.Closed) where
   closed_take : Feeding.take q (drop q.total f) ≡ Feeding.stops (Feeding.refused (refusal_of Rule.Closed q)) q q.total
   closed_take = take_is (ends (step_again (drop q.total f) h)) ∙ ap (Feeding.stops (Feeding.refused (refusal_of Rule.Closed q)) q) (add-zero q.total)
 
-  closed_rest : Rest q f ≡ text (L.Stopped S.Done q.total)
-  closed_rest = ap (λ (r : Seen). seen_text r f) closed_take ∙ ap (λ (e : Ended). end_text e q.total) (end_again (drop q.total f) h)
-
-  closed_count : count_in q f ≡ 0
-  closed_count = ap (λ (r : Seen). length (events r ++ owed_by 0 (ending_of r f))) closed_take ∙ ap (λ (e : Ended). length (owed_by 0 e)) (end_again (drop q.total f) h)
+  closed_lines : lines_from q f ≡ L.Stopped S.Done q.total ∷ []
+  closed_lines = ap (λ (r : Seen). seen_lines r f) closed_take ∙ ap (λ (e : Ended). end_lines e q.total) (end_again (drop q.total f) h)
 
 -- where a step does not show an event: the end call, from the record r behind c bytes
 module _ (p : ContainerParser) (f : List ℕ) (w : Stop) (r : ContainerParser) (c : ℕ)
-    (seen : Feeding.take p (drop p.total f) ≡ Feeding.stops w r (p.total + c)) (count : r.total ≡ p.total + c) (fits : p.total + c ≤ length f) where
+    (seen : Feeding.take p (drop p.total f) ≡ Feeding.stops w r (p.total + c)) (count : r.total ≡ p.total + c) where
   abbrev u : List ℕ
   u = drop c (drop p.total f)
 
-  ended_as_lem : {x : Ended} → end_of r u ≡ x → ending_of (Feeding.take p (drop p.total f)) f ≡ x
-  ended_as_lem e = ap (λ (s : Seen). ending_of s f) seen ∙ ap (end_of r) (sym (drop-drop c p.total f)) ∙ e
+  lines_ended : {x : Ended} → end_of r u ≡ x → lines_from p f ≡ end_lines x r.total
+  lines_ended e =
+      ap (λ (s : Seen). seen_lines s f) seen
+      ∙ ap (λ (l : List ℕ). end_lines (end_of r l) (p.total + c)) (sym (drop-drop c p.total f))
+      ∙ (λ i. end_lines (e i) (sym count i))
 
-  rest_ended : {x : Ended} → end_of r u ≡ x → Rest p f ≡ end_text x r.total
-  rest_ended {x} e =
-      ap (λ (s : Seen). lines_of (events s) ++ end_text (ending_of (Feeding.take p (drop p.total f)) f) s.consumed) seen
-      ∙ (λ i. end_text (ended_as_lem e i) (sym count i))
-
-  ended_shown : {e : ParseEvent} → (next_end (end_of r u)).answer ≡ Ok e → Follows p f e (next_end (end_of r u)).parser
+  ended_shown : {e : ParseEvent} → (next_end (end_of r u)).answer ≡ Ok e → lines_from p f ≡ L.Shown e ∷ lines_from (next_end (end_of r u)).parser f
   ended_shown {e} n = go (end_of r u) refl n
     where
-      one_event : (d : FileEvent) (es : List FileEvent) (o : ContainerParser) → es ≡ [] → end_of r u ≡ done (d ∷ es) o → (in_file d).event ≡ e → Follows p f e o
+      one_event : (d : FileEvent) (es : List FileEvent) (o : ContainerParser) → es ≡ [] → end_of r u ≡ done (d ∷ es) o → (in_file d).event ≡ e
+          → lines_from p f ≡ L.Shown e ∷ lines_from o f
       one_event d es o alone k event =
           let last : end_of r u ≡ done (d ∷ []) o = k ∙ ap (λ (l : List FileEvent). done (d ∷ l) o) alone in
-          let closed = done_holds r u last in
-          let keeps = rw last at (end_keeps r u) in
-          let total : o.total ≡ r.total = keeps.1.1 in
-          record {
-            text_is = rest_ended last ∙ append_assoc (text (L.Shown (in_file d).event)) [] (text (L.Stopped S.Done r.total)) ∙ (λ i. text (L.Shown (event i)) ++ sym (closed_rest o f closed ∙ ap (λ (m : ℕ). text (L.Stopped S.Done m)) total) i);
-            inside = omega (arith, total, count, fits);
-            fewer = ap (λ (s : Seen). length (events s ++ owed_by 0 (ending_of (Feeding.take p (drop p.total f)) f))) seen ∙ ap (λ (x : Ended). length (owed_by 0 x)) (ended_as_lem last) ∙ ap suc (sym (closed_count o f closed));
-          }
+          let total : o.total ≡ r.total = (rw last at (end_keeps r u)).1.1 in
+          let then : lines_from o f ≡ L.Stopped S.Done r.total ∷ [] =
+          closed_lines o f (done_holds r u last) ∙ ap (λ (m : ℕ). L.Stopped S.Done m ∷ []) total in
+          lines_ended last ∙ (λ i. L.Shown (event i) ∷ sym then i)
 
-      go : (x : Ended) → end_of r u ≡ x → (next_end x).answer ≡ Ok e → Follows p f e (next_end x).parser
+      go : (x : Ended) → end_of r u ≡ x → (next_end x).answer ≡ Ok e → lines_from p f ≡ L.Shown e ∷ lines_from (next_end x).parser f
       go (done [] o) k n = never cc
       go (done (d ∷ es) o) k n =
           let event : (in_file d).event ≡ e = cc in
           one_event d es o (one_owed (rw k at (end_keeps r u)).0) k event
       go (refuses x o) k n = never cc
 
-  ended_stopped : {v : StopWord} → (next_end (end_of r u)).answer ≡ Err v → Rest p f ≡ text (L.Stopped v (next_end (end_of r u)).parser.total)
+  ended_stopped : {v : StopWord} → (next_end (end_of r u)).answer ≡ Err v → lines_from p f ≡ L.Stopped v (next_end (end_of r u)).parser.total ∷ []
   ended_stopped {v} n = go (end_of r u) refl n
     where
-      go : (x : Ended) → end_of r u ≡ x → (next_end x).answer ≡ Err v → Rest p f ≡ text (L.Stopped v (next_end x).parser.total)
+      go : (x : Ended) → end_of r u ≡ x → (next_end x).answer ≡ Err v → lines_from p f ≡ L.Stopped v (next_end x).parser.total ∷ []
       go (done [] o) k n =
           let word : S.Done ≡ v = cc in
           let total : r.total ≡ o.total = sym (rw k at (end_keeps r u)).1.1 in
-          rest_ended k ∙ (λ i. text (L.Stopped (word i) (total i)))
+          lines_ended k ∙ (λ i. L.Stopped (word i) (total i) ∷ [])
       go (done (d ∷ es) o) k n = never cc
       go (refuses x o) k n =
           let word : printed (why x.rule) ≡ v = cc in
           let total : r.total ≡ o.total = sym (rw k at (end_keeps r u)).1 in
-          rest_ended k ∙ (λ i. text (L.Stopped (word i) (total i)))
+          lines_ended k ∙ (λ i. L.Stopped (word i) (total i) ∷ [])
 
 module _ (p : ContainerParser) (f : List ℕ) where
   -- an event's line, and the rest
-  pub following_shown : p.total ≤ length f → {n : AfterStep} {e : ParseEvent} → n ≡ next_of p (drop p.total f) → n.answer ≡ Ok e → Follows p f e n.parser
-  following_shown h {n} {e} so = subst (λ (x : AfterStep). x.answer ≡ Ok e → Follows p f e x.parser) (sym so) (go (step_of p (drop p.total f)) refl)
+  pub following_shown : {n : AfterStep} {e : ParseEvent} → n ≡ next_of p (drop p.total f) → n.answer ≡ Ok e → lines_from p f ≡ L.Shown e ∷ lines_from n.parser f
+  following_shown {n} {e} so =
+      subst (λ (x : AfterStep). x.answer ≡ Ok e → lines_from p f ≡ L.Shown e ∷ lines_from x.parser f) (sym so) (go (step_of p (drop p.total f)) refl)
     where
-      go : (t : Told) → step_of p (drop p.total f) ≡ t → (next_in (drop p.total f) t).answer ≡ Ok e → Follows p f e (next_in (drop p.total f) t).parser
+      go : (t : Told) → step_of p (drop p.total f) ≡ t → (next_in (drop p.total f) t).answer ≡ Ok e
+          → lines_from p f ≡ L.Shown e ∷ lines_from (next_in (drop p.total f) t).parser f
       go (shows d r c) st n =
           let counts = shown_counts p (drop p.total f) st in
           let event : (in_file d).event ≡ e = cc in
-          let placed_at_lem : (further p.total d).event ≡ e = ap (λ (x : FileEvent). x.event) (in_file_further counts) ∙ event in
+          let there : (further p.total d).event ≡ e = ap (λ (x : FileEvent). x.event) (in_file_further counts) ∙ event in
           let taken : Feeding.take p (drop p.total f) ≡ followed (placed p.total (drop p.total f) d c ∷ []) (Feeding.take r (drop r.total f)) =
           taken_shown p f p.total st
           ∙ ap (λ (m : ℕ). followed (placed p.total (drop p.total f) d c ∷ []) (Feeding.take r (drop m f))) (sym counts.next_total) in
-          record {
-            text_is =
-                ap (λ (x : Seen). seen_text x f) taken
-                ∙ append_assoc (text (L.Shown (further p.total d).event)) (lines_of (events (Feeding.take r (drop r.total f)))) _
-                ∙ ap (λ (x : ParseEvent). text (L.Shown x) ++ Rest r f) placed_at_lem;
-            inside = omega (arith, shown_fits p f p.total h st, counts.next_total);
-            fewer = ap (λ (x : Seen). length (events x ++ owed_by 0 (ending_of x f))) taken;
-          }
-      go (wants r c) st n = ended_shown p f Feeding.want r c (take_is (waits st)) (wants_counts p (drop p.total f) st).0 (wants_fits p f p.total h st) n
-      go (Step.refuses x r c) st n =
-          ended_shown p f (Feeding.refused x) r c (take_is (ends st)) (refuses_counts p (drop p.total f) st).0 (refuses_fits p f p.total h st) n
+          ap (λ (x : Seen). seen_lines x f) taken ∙ ap (λ (x : ParseEvent). L.Shown x ∷ lines_from r f) there
+      go (wants r c) st n = ended_shown p f Feeding.want r c (take_is (waits st)) (wants_counts p (drop p.total f) st).0 n
+      go (Step.refuses x r c) st n = ended_shown p f (Feeding.refused x) r c (take_is (ends st)) (refuses_counts p (drop p.total f) st).0 n
 
   -- the stop's line, and nothing more
-  pub following_stopped : p.total ≤ length f → {n : AfterStep} {w : StopWord} → n ≡ next_of p (drop p.total f) → n.answer ≡ Err w
-      → Rest p f ≡ text (L.Stopped w n.parser.total)
-  following_stopped h {n} {w} so =
-      subst (λ (x : AfterStep). x.answer ≡ Err w → Rest p f ≡ text (L.Stopped w x.parser.total)) (sym so) (go (step_of p (drop p.total f)) refl)
+  pub following_stopped : {n : AfterStep} {w : StopWord} → n ≡ next_of p (drop p.total f) → n.answer ≡ Err w → lines_from p f ≡ L.Stopped w n.parser.total ∷ []
+  following_stopped {n} {w} so =
+      subst (λ (x : AfterStep). x.answer ≡ Err w → lines_from p f ≡ L.Stopped w x.parser.total ∷ []) (sym so) (go (step_of p (drop p.total f)) refl)
     where
       go : (t : Told) → step_of p (drop p.total f) ≡ t → (next_in (drop p.total f) t).answer ≡ Err w
-          → Rest p f ≡ text (L.Stopped w (next_in (drop p.total f) t).parser.total)
+          → lines_from p f ≡ L.Stopped w (next_in (drop p.total f) t).parser.total ∷ []
       go (shows d r c) st n = never cc
-      go (wants r c) st n = ended_stopped p f Feeding.want r c (take_is (waits st)) (wants_counts p (drop p.total f) st).0 (wants_fits p f p.total h st) n
-      go (Step.refuses x r c) st n =
-          ended_stopped p f (Feeding.refused x) r c (take_is (ends st)) (refuses_counts p (drop p.total f) st).0 (refuses_fits p f p.total h st) n
+      go (wants r c) st n = ended_stopped p f Feeding.want r c (take_is (waits st)) (wants_counts p (drop p.total f) st).0 n
+      go (Step.refuses x r c) st n = ended_stopped p f (Feeding.refused x) r c (take_is (ends st)) (refuses_counts p (drop p.total f) st).0 n
 
 -- a step that does not show an event leads to the end call, made with the bytes behind those consumed
-module _ (p : ContainerParser) (f : List ℕ) (h : p.total ≤ length f) where
-  pub record Stops (q : ContainerParser) : Type 0 where
-    pub inside : q.total ≤ length f
-    pub next_is : next_of p (drop p.total f) ≡ next_end (end_of q (drop q.total f))
+module _ (p : ContainerParser) (f : List ℕ) where
+  stops_behind : (q : ContainerParser) (c : ℕ) → q.total ≡ p.total + c → next_of p (drop p.total f) ≡ next_end (end_of q (drop c (drop p.total f)))
+      → next_of p (drop p.total f) ≡ next_end (end_of q (drop q.total f))
+  stops_behind q c t n = n ∙ ap (λ (u : List ℕ). next_end (end_of q u)) (drop-drop c p.total f ∙ ap (λ (m : ℕ). drop m f) (sym t))
 
-  stops_behind : (q : ContainerParser) (c : ℕ) → q.total ≡ p.total + c → p.total + c ≤ length f
-      → next_of p (drop p.total f) ≡ next_end (end_of q (drop c (drop p.total f))) → Stops q
-  stops_behind q c t k n =
-      record { inside = omega arith; next_is = n ∙ ap (λ (u : List ℕ). next_end (end_of q u)) (drop-drop c p.total f ∙ ap (λ (m : ℕ). drop m f) (sym t)) }
+  pub stops_wanting : {q : ContainerParser} {c : ℕ} → step_of p (drop p.total f) ≡ wants q c → next_of p (drop p.total f) ≡ next_end (end_of q (drop q.total f))
+  stops_wanting {q} {c} st = stops_behind q c (wants_counts p (drop p.total f) st).0 (ap (next_in (drop p.total f)) st)
 
-  pub stops_wanting : {q : ContainerParser} {c : ℕ} → step_of p (drop p.total f) ≡ wants q c → Stops q
-  stops_wanting {q} {c} st =
-      stops_behind q c (wants_counts p (drop p.total f) st).0 (wants_fits p f p.total h st) (ap (next_in (drop p.total f)) st)
-
-  pub stops_refusing : {r : FileRefusal} {q : ContainerParser} {c : ℕ} → step_of p (drop p.total f) ≡ Step.refuses r q c → Stops q
-  stops_refusing {r} {q} {c} st =
-      stops_behind q c (refuses_counts p (drop p.total f) st).0 (refuses_fits p f p.total h st) (ap (next_in (drop p.total f)) st)
+  pub stops_refusing : {r : FileRefusal} {q : ContainerParser} {c : ℕ} → step_of p (drop p.total f) ≡ Step.refuses r q c
+      → next_of p (drop p.total f) ≡ next_end (end_of q (drop q.total f))
+  stops_refusing {r} {q} {c} st = stops_behind q c (refuses_counts p (drop p.total f) st).0 (ap (next_in (drop p.total f)) st)
 
 -- the end call on the bytes from k on
 pub far_end : (p : ContainerParser) (s : List ℕ) (k : ℕ) → end_of p (take (length s - k) (drop k s)) ≡ end_of p (drop k s)
@@ -283,13 +249,25 @@ outcome_text r u t = go (end_of r.next u) refl
         ∙ ap (λ (l : List FileEvent). texts es ++ (lines_of l ++ text (L.Stopped S.Done r.consumed))) there
     go (refuses w q) k = ap (λ (l : List ParseEvent). texts l ++ text (L.Stopped (printed (why w.rule)) r.consumed)) (append-nil es)
 
+-- the text of lines
+text_shown : (es : List ParseEvent) (ls : List Line) → text_of (shown_lines es ++ ls) ≡ texts es ++ text_of ls
+text_shown [] ls = refl
+text_shown (e ∷ es) ls = ap (λ (l : List ℕ). text (L.Shown e) ++ l) (text_shown es ls) ∙ sym (append_assoc (text (L.Shown e)) (texts es) (text_of ls))
+
+text_ended : (x : Ended) (n : ℕ) → text_of (end_lines x n) ≡ end_text x n
+text_ended (done es q) n =
+    text_shown (without_totals (in_files es)) (L.Stopped S.Done n ∷ []) ∙ ap (λ (l : List ℕ). lines_of (in_files es) ++ l) (append-nil (text (L.Stopped S.Done n)))
+text_ended (refuses r q) n = append-nil (text (L.Stopped (printed (why r.rule)) n))
+
 -- all of it
-pub rest_file : (f : List ℕ) → Rest fresh f ≡ file_text f
+pub text_of_file : (f : List ℕ) → text_of (lines_from fresh f) ≡ file_text f
 unfolding file_text
-rest_file f =
+text_of_file f =
     let seen = Feeding.take fresh f in
     let total : seen.next.total ≡ seen.consumed = ap (λ (r : Seen). r.next.total) (sym (whole_feed fresh f)) ∙ total_of_packets fresh (f ∷ []) ∙ ap (λ (r : Seen). r.consumed) (whole_feed fresh f) in
-    ap (λ (l : List FileEvent). lines_of l ++ end_text (ending_of seen f) seen.consumed) (sym (nothing_to_join fresh f))
+    text_shown (without_totals (events seen)) (end_lines (ending_of seen f) seen.consumed)
+    ∙ ap (λ (l : List ℕ). lines_of (events seen) ++ l) (text_ended (ending_of seen f) seen.consumed)
+    ∙ ap (λ (l : List FileEvent). lines_of l ++ end_text (ending_of seen f) seen.consumed) (sym (nothing_to_join fresh f))
     ∙ sym (outcome_text seen (drop seen.consumed f) total)
     ∙ ap listing_text (ends_as_listed f (drop seen.consumed f) seen refl (settles refl (takes fresh 0 f).1) ∙ ap ended_listing (whole_file f))
 

@@ -1,5 +1,5 @@
 -- The text of a listing: of what was seen, of a whole file, and of what closes it. A listing makes the end call.
-use Rattle.std.specs.Prelude.{Result, Ok, Err, List, [], ◌∷◌, ◌++◌, ℕ, ◌-◌, ◌^◌, min, leb, length, drop}
+use Rattle.std.specs.Prelude.{Option, None, Some, Result, Ok, Err, List, [], ◌∷◌, ◌++◌, ℕ, ◌-◌, ◌^◌, min, leb, length, drop}
 use Rattle.jxl_headers.specs.Bytes.{if}
 use Rattle.jxl_refusals.specs.Refusals.{Why, why, in_document01}
 use Rattle.jxl_refusals.specs.declared.BoxRefusal.{BoxRefusal}
@@ -8,6 +8,7 @@ use Rattle.jxl_events.specs.declared.ParseEvent.{ParseEvent}
 use Rattle.jxl_events.specs.declared.FileEvent.{FileEvent}
 use Rattle.jxl_grammar.specs.Grammar as G
 use Rattle.jxl_totals.specs.Step.{Told, shows, wants, refuses, step_of}
+use Rattle.jxl_totals.specs.Feeding.{take, events}
 use Rattle.jxl_endings.specs.End.{Ended, end_of}
 use Rattle.jxl_endings.specs.End as End
 use Rattle.jxl_endings.specs.Ended.{Stop, done, refused, EndedFile, ended_as, ended_listing, ended}
@@ -15,6 +16,7 @@ use Rattle.jxl_totals.specs.declared.ContainerParser.{ContainerParser}
 use Rattle.jxl_lines.specs.Lines.{refused_word, printed, text}
 use Rattle.jxl_lines.specs.Pasting.{pasted}
 use Rattle.jxl_lines.specs.Putting.{Outcome, leaves}
+use Rattle.jxl_lines.specs.declared.Line.{Line}
 use Rattle.jxl_lines.specs.declared.Line.TheVariants as L
 use Rattle.jxl_lines.specs.declared.StopWord.{StopWord}
 use Rattle.jxl_lines.specs.declared.StopWord.TheVariants as S
@@ -66,6 +68,31 @@ in_files (e ∷ es) = in_file e ∷ in_files es
 abbrev pub end_text : Ended → ℕ → List ℕ
 end_text (End.done es q) n = lines_of (in_files es) ++ text (L.Stopped S.Done n)
 end_text (End.refuses r q) n = text (L.Stopped (printed (why r.rule)) n)
+
+-- the same as lines: of events, of what closes a listing, and of all that is still to come of the file f, of which the record's total is
+-- consumed
+abbrev pub shown_lines : List ParseEvent → List Line
+shown_lines [] = []
+shown_lines (e ∷ es) = L.Shown e ∷ shown_lines es
+
+abbrev pub end_lines : Ended → ℕ → List Line
+end_lines (End.done es q) n = shown_lines (without_totals (in_files es)) ++ L.Stopped S.Done n ∷ []
+end_lines (End.refuses r q) n = L.Stopped (printed (why r.rule)) n ∷ []
+
+abbrev pub lines_from : ContainerParser → List ℕ → List Line
+lines_from p f =
+    let seen = take p (drop p.total f) in
+    shown_lines (without_totals (events seen)) ++ end_lines (end_of seen.next (drop seen.consumed f)) seen.consumed
+
+-- with no record: nothing, since the stop was told
+abbrev pub lines_left : Option ContainerParser → List ℕ → List Line
+lines_left None f = []
+lines_left (Some p) f = lines_from p f
+
+-- lines put one behind the other
+abbrev pub text_of : List Line → List ℕ
+text_of [] = []
+text_of (l ∷ ls) = text l ++ text_of ls
 
 abbrev pub after_step : Result ParseEvent StopWord → ContainerParser → AfterStep
 after_step answer q = record { parser = q; answer = answer }

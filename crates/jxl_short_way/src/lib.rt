@@ -1,13 +1,14 @@
 // The short way through a turn whose input lies inside the codestream part held.
 #![tactic(auto)]
 
-ghost use Rattle.std.specs.Prelude.{◌≡◌, ◌+◌, ◌^◌, ◌<◌, ◌≤◌, eqb, leb};
+ghost use Rattle.std.specs.Prelude.{◌≡◌, ◌+◌, ◌^◌, ◌<◌, ◌≤◌, leb};
 ghost use Rattle.jxl_totals.specs.Step.{limit};
 ghost use Rattle.jxl_list_rules.specs.Way.{way_behind, way_of};
 
 use jxl_events::{FileEvent, ParseEvent};
 use jxl_impossible::over_index;
 use jxl_joiner::Joiner;
+use jxl_parts::ends_at;
 use jxl_record::{BoxParser, DetectState};
 use jxl_totals::ContainerParser;
 
@@ -16,13 +17,6 @@ fn within(total: u64, n: usize) -> bool
     ensures { result ≡ leb (total + n) limit }
 {
     total.saturating_add(n as u64) <= 0x7fff_ffff_ffff_ffff
-}
-
-// Whether `len` bytes at `at` end at `total`.
-fn ends_at(at: usize, len: usize, total: u64) -> bool
-    ensures { result ≡ eqb (at + len) total }
-{
-    at.checked_add(len) == Some(total as usize)
 }
 
 // The rules' record behind `n` bytes inside a codestream, and the part held then; none with an event to tell first, or with nothing left
@@ -74,7 +68,7 @@ pub fn way(parser: ContainerParser, joiner: Joiner, n: usize) -> Option<(Contain
     let first = joiner.held?;
     match first.event {
         ParseEvent::Codestream { at, len } => {
-            if n > 0 && within(parser.total, n) && ends_at(at, len, parser.total) {
+            if n > 0 && within(parser.total, n) && ends_at(at, len, parser.total as usize) {
                 way_behind(parser, at, n)
             } else {
                 None

@@ -11,7 +11,7 @@ use jxl_refusals::BoxRefusal;
 
 // The parser's whole record: the rules' own, the bytes consumed, and the first byte of the newest header (0 before the first one). The
 // rules on boxes know nothing of the two counts.
-#[derive(Clone, Copy)]
+#[derive(Clone, Copy, Debug, PartialEq, Eq)]
 pub struct ContainerParser {
     pub boxes: BoxParser,
     pub total: u64,
