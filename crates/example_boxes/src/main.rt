@@ -7,7 +7,7 @@ use std::io;
 use std::io::Write;
 
 // Prints a line of the listing, which has at most 56 bytes.
-#[tactic(auto, using(jxl_lines::proofs::Putting::put_within))]
+#[tactic(auto, using(jxl_lines::proofs::Putting::put_within, crate::proofs::Lines::written))]
 fn print_line(rt: &impl Print, line: Line) -> io::Result<()> {
     let mut text = [0; 56];
     if let Ok(len) = jxl_listing::put_line(&mut text, 0, line) {
@@ -28,6 +28,7 @@ fn print_stop(rt: &impl Print, stop: StopWord, total: u64) -> io::Result<()> {
 }
 
 // Prints all events of `input`: the bytes left unread, and the packet behind them. Answers the record that the last step leaves.
+#[tactic(auto, using(crate::proofs::Ending::fits, crate::proofs::Ending::fewer))]
 fn feed(rt: &impl Print, start: ContainerParser, input: &[u8]) -> io::Result<ContainerParser> {
     let mut parser = start;
     let mut unread = input;
