@@ -22,7 +22,7 @@ pub enum StopWord {
 }
 
 impl StopWord {
-    // What is printed of a refusal, and of Closed, which is none.
+    // What is printed of a refusal, and of Closed, which is none. Not a From: ten rules have one word here.
     pub fn refused(refusal: BoxRefusal) -> StopWord
         ensures { result ≡ printed (why refusal) }
     {
