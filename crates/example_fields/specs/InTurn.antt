@@ -4,7 +4,7 @@ use Rattle.jxl_bit_rules.specs.Answer.{Answer, gives, refuses}
 use Rattle.jxl_bit_rules.specs.Readers as R
 use Rattle.jxl_field_rules.specs.Fields as F
 use Rattle.jxl_field_rules.specs.declared.U32Specifier.{U32Specifier}
-use Rattle.jxl_results.specs.Results.{u32_at, bool_at, unit_at}
+use Rattle.jxl_results.specs.Results.{result_at}
 use Rattle.example_fields.specs.declared.Fields.{Fields}
 
 -- where an answer leaves the reader
@@ -21,6 +21,6 @@ after_flag s at = leaves (R.bool s (after_skip s at))
 
 -- the skip, the Bool behind it, and a U32 behind that
 pub record InTurn (s : List ℕ) (at : ℕ) (d : List U32Specifier) (r : Fields) : Type 0 where
-  pub start : unit_at r.start (after_skip s at) ≡ R.skip at s 0
-  pub flag : bool_at r.flag (after_flag s at) ≡ R.bool s (after_skip s at)
-  pub value : u32_at r.value r.bits ≡ F.u32 d s (after_flag s at)
+  pub start : result_at r.start (after_skip s at) ≡ R.skip at s 0
+  pub flag : result_at r.flag (after_flag s at) ≡ R.bool s (after_skip s at)
+  pub value : result_at r.value r.bits ≡ F.u32 d s (after_flag s at)

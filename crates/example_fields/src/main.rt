@@ -2,20 +2,17 @@
 #![tactic(auto)]
 
 ghost use Rattle.std.specs.Prelude.{◌≡◌};
-ghost use Rattle.jxl_bit_rules.specs.Told.{told_u32};
+ghost use Rattle.jxl_bit_rules.specs.Told.{told};
 ghost use Rattle.jxl_field_rules.specs.Fields as F;
 ghost use Rattle.example_fields.specs.InTurn.{InTurn, after_flag};
 
-use jxl_bitstream::{Bitstream, ReadU32, ResultBool, ResultU32, ResultUnit, U32Specifier};
-
-// The descriptor of standard output.
-const STDOUT: i32 = 1;
+use jxl_bitstream::{Bitstream, BitstreamResult, Read, Refused, U32Specifier};
 
 #[derive(Clone, Copy)]
 struct Fields {
-    start: ResultUnit,
-    flag: ResultBool,
-    value: ResultU32,
+    start: BitstreamResult<()>,
+    flag: BitstreamResult<bool>,
+    value: BitstreamResult<u32>,
     bits: usize,
 }
 
@@ -37,44 +34,25 @@ fn flag_and_u32(bytes: &[u8], at: usize, d: [U32Specifier; 4]) -> Fields
 }
 
 // The U32 with its position. What it calls has plain parameters, so its proof knows nothing of a reader.
-fn u32_behind_flag(bytes: &[u8], at: usize, d: [U32Specifier; 4]) -> ReadU32
-    ensures { told_u32 result ≡ F.u32 d bytes.now (after_flag bytes.now at) }
+fn u32_behind_flag(bytes: &[u8], at: usize, d: [U32Specifier; 4]) -> Read<u32>
+    ensures { told result ≡ F.u32 d bytes.now (after_flag bytes.now at) }
 {
-    let f = flag_and_u32(bytes, at, d);
-    let value = f.value;
-    let bits = f.bits;
+    let Fields { value, bits, .. } = flag_and_u32(bytes, at, d);
     match value {
-        ResultU32::Value(v) => ReadU32::Value(v, bits),
-        ResultU32::Refused(refusal) => ReadU32::Refused(refusal, bits),
+        Ok(v) => Ok((v, bits)),
+        Err(refusal) => Err(Refused { refusal, at: bits }),
     }
 }
 
-// A line of what was read, in `out`.
-fn line(answer: ReadU32, out: &mut [u8]) -> usize {
-    match answer {
-        ReadU32::Value(v, bits) => {
-            let n = replay_text::put_decimal(out, 0, v as u64);
-            let n = replay_text::put_bytes(out, n, b", up to bit ");
-            let n = replay_text::put_decimal(out, n, bits as u64);
-            replay_text::put_byte(out, n, b'\n')
-        }
-        ReadU32::Refused(_, bits) => {
-            let n = replay_text::put_bytes(out, 0, b"refused at bit ");
-            let n = replay_text::put_decimal(out, n, bits as u64);
-            replay_text::put_byte(out, n, b'\n')
-        }
-    }
+// A line of what was read. Where it cannot be written, the program goes on.
+fn tell(rt: &impl Print, answer: Read<u32>) {
+    let _ = match answer {
+        Ok((v, bits)) => println!(rt; "{v}, up to bit {bits}"),
+        Err(refused) => println!(rt; "refused at bit {}", refused.at),
+    };
 }
 
-fn tell(answer: ReadU32) {
-    let mut out = [0u8; 64];
-    let n = line(answer, &mut out);
-    if n <= 64 {
-        io::write_all(STDOUT, &out[..n]);
-    }
-}
-
-fn main() {
+fn main(rt: HostRuntime) {
     // 1, 2 bits, 3 + 4 bits, 19 + 8 bits
     let d = [
         U32Specifier::Constant(1),
@@ -82,6 +60,6 @@ fn main() {
         U32Specifier::BitsOffset(3, 4),
         U32Specifier::BitsOffset(19, 8),
     ];
-    tell(u32_behind_flag(b"e", 0, d));
-    tell(u32_behind_flag(b"e", 4, d));
+    tell(&rt, u32_behind_flag(b"e", 0, d));
+    tell(&rt, u32_behind_flag(b"e", 4, d));
 }

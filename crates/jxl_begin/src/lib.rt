@@ -1,11 +1,12 @@
-// What comes before every reading of bits and every move over them. The rules are in `jxl_bit_rules`.
+// What comes before every reading of bits and every move over them, and the place where it then stands. The rules are in `jxl_bit_rules`.
 #![tactic(auto)]
 
-ghost use Rattle.std.specs.Prelude.{◌≡◌};
+ghost use Rattle.std.specs.Prelude.{◌≡◌, ◌-◌, ◌^◌, ◌≤◌, length};
+ghost use Rattle.jxl_bit_rules.specs.Bits.{bits, end};
 ghost use Rattle.jxl_bit_rules.specs.Readers as F;
 ghost use Rattle.jxl_bit_rules.specs.Told.{told_moved};
 
-use jxl_bit_rules::{FieldRefusal, Moved};
+use jxl_bit_rules::{FieldRefusal, Moved, Refused};
 
 // What comes before every reading: 8, 7, then the position moved to the end.
 #[tactic(auto, unfolding(jxl_bit_rules::specs::Readers::begin))]
@@ -13,15 +14,75 @@ pub fn begin(s: &[u8], at: usize, wide: bool) -> Moved
     ensures { told_moved result ≡ F.begin wide s.now at }
 {
     if 0x1fff_ffff_ffff_ffff < s.len() {
-        return Moved::Refused(FieldRefusal::TooLong, at);
+        return Err(Refused {
+            refusal: FieldRefusal::TooLong,
+            at,
+        });
     }
     if wide {
-        return Moved::Refused(FieldRefusal::Width, at);
+        return Err(Refused {
+            refusal: FieldRefusal::Width,
+            at,
+        });
     }
-    let end = 8 * s.len();
-    if at <= end {
-        Moved::To(at)
-    } else {
-        Moved::To(end)
+    Ok(at.min(8 * s.len()))
+}
+
+// The `n` bits at `at`, those beyond the end as 0.
+fn look(s: &[u8], at: usize, n: usize) -> u32
+    requires { n ≤ 32 }
+    ensures { result ≡ bits s.now at n }
+{
+    let w = jxl_window::window(s, at) >> (at % 8);
+    (w & ((1u64 << n) - 1)) as u32
+}
+
+// A bit position that `begin` lets through, in its slice: a reading may go on from here.
+#[derive(Clone, Copy)]
+pub struct Place<'a> {
+    pub bytes: &'a [u8],
+    pub at: usize,
+    ghost short: { length bytes.now ≤ 2 ^ 61 - 1 },
+    ghost within: { at ≤ end bytes.now },
+}
+
+impl<'a> Place<'a> {
+    ghost use Rattle.jxl_begin.specs.Places.{here, BeginsAt, GoesOn};
+
+    // What `begin` does, and the place that it leaves.
+    #[tactic(auto, using(jxl_bit_rules::proofs::Parts::begun))]
+    pub fn new(bytes: &'a [u8], at: usize, wide: bool) -> Result<Place<'a>, Refused>
+        ensures { BeginsAt bytes.entry (F.begin wide bytes.now at) result }
+    {
+        let at = begin(bytes, at, wide)?;
+        Ok(Place { bytes, at })
+    }
+
+    // The `n` bits from here, those beyond the end as 0.
+    pub fn look(self, n: usize) -> u32
+        requires { n ≤ 32 }
+        ensures { result ≡ bits self.entry.bytes.now self.entry.at n }
+    {
+        look(self.bytes, self.at, n)
+    }
+
+    // A part of `n` bits, and the place after it.
+    #[tactic(auto, unfolding(jxl_bit_rules::specs::Readers::part))]
+    pub fn read(self, n: usize) -> Result<(u32, Place<'a>), Refused>
+        requires { n ≤ 32 }
+        ensures { GoesOn self.entry.bytes (here (F.part n) self.entry) result }
+    {
+        if n <= 8 * self.bytes.len() - self.at {
+            let next = Place {
+                bytes: self.bytes,
+                at: self.at + n,
+            };
+            Ok((self.look(n), next))
+        } else {
+            Err(Refused {
+                refusal: FieldRefusal::UnexpectedEof,
+                at: self.at,
+            })
+        }
     }
 }

@@ -1,5 +1,7 @@
 -- What a caller may know of a part, and of the beginning of every call, by how it was answered.
 -- Assumes nothing.
+use Rattle.std.specs.Prelude.{Result, IsErrAnd}
+use Rattle.std.proofs.lemmas.Result.{err_from_is_err_and}
 use mathlib.Core.Bool.{Bool, true, false, cond}
 use mathlib.Core.List.{List, []}
 use mathlib.Core.Path.{◌≡◌, refl, sym}
@@ -15,6 +17,8 @@ use Rattle.jxl_bit_rules.specs.Bits.{number, bits, end, start}
 use Rattle.jxl_bit_rules.specs.Readers.{begin, part}
 use Rattle.jxl_bit_rules.specs.Inside.{Ready}
 use Rattle.jxl_bit_rules.specs.Refusals.{eof, width, long}
+use Rattle.jxl_bit_rules.specs.Told.{told, refused}
+use Rattle.jxl_bit_rules.specs.declared.Refused.{Refused}
 
 abbrev Absurd : Type 0
 Absurd = ◌≡◌ {A = ℕ} 0 1
@@ -93,3 +97,7 @@ long_only s at r t p h = go (ltb (2 ^ 61 - 1) (length s)) h
         → ◌≡◌ {A = Answer (Unit {0})} (cond b (refuses long [] at) (gives tt (start s at))) (refuses long [] at)
     go true k = refl
     go false k = differ (sym k)
+
+-- a refusal that `?` hands on is told as it was
+pub handed_on : {A : Type 0} (r : Result (A × ℕ) Refused) (e : Refused) → IsErrAnd r (λ y. y ≡ e) → told r ≡ refused e
+handed_on r e h = let p = err_from_is_err_and r h in rw (p.1, p.2)

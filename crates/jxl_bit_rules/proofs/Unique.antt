@@ -2,6 +2,7 @@
 -- Assumes nothing.
 use mathlib.Core.Bool.{cond}
 use mathlib.Core.List.{List}
+use Rattle.std.specs.Prelude.{Result, Ok, Err}
 use mathlib.Core.Path.{◌≡◌, refl, sym, ap, ◌∙◌}
 use Prim.Native.Nat.{ℕ, ◌/◌, ◌%◌, ◌^◌}
 use lib.Dec.{eqb}
@@ -13,13 +14,8 @@ use Rattle.jxl_base.specs.OneAnswer.{OneAnswer}
 use Rattle.jxl_base.proofs.OneAnswer.{one_named, one_told}
 use Rattle.jxl_bit_rules.specs.Refusals.{eof, padding, float, enum, width, numbered, tells}
 use Rattle.jxl_bit_rules.specs.Theorems.{OneOf, OneWindow, OneBegin, OnePeekBits, OneReadBits, OneConsumeBits, OneSkipBits, OneZeroPadToByte, OneReadBool, OneNumReadBits}
-use Rattle.jxl_bit_rules.specs.Told.{told_u32, told_bool, told_moved}
-use Rattle.jxl_bit_rules.specs.declared.Moved.TheVariants as M
-use Rattle.jxl_bit_rules.specs.declared.Moved.{Moved}
-use Rattle.jxl_bit_rules.specs.declared.ReadBool.TheVariants as B
-use Rattle.jxl_bit_rules.specs.declared.ReadBool.{ReadBool}
-use Rattle.jxl_bit_rules.specs.declared.ReadU32.TheVariants as U32
-use Rattle.jxl_bit_rules.specs.declared.ReadU32.{ReadU32}
+use Rattle.jxl_bit_rules.specs.Told.{told, told_moved}
+use Rattle.jxl_bit_rules.specs.declared.Refused.{Refused}
 use Rattle.jxl_bit_rules.specs.declared.FieldRefusal.TheVariants.{UnexpectedEof, NonZeroPadding, InvalidFloat, InvalidEnum, Width, TooLong}
 use Rattle.jxl_bit_rules.specs.declared.FieldRefusal.{FieldRefusal}
 
@@ -44,30 +40,38 @@ renamed (InvalidEnum v) = refl
 renamed Width = refl
 renamed TooLong = refl
 
--- an answer, from what is told of it, where each has a case with a value and one with a refusal
-abbrev pub back : {A R : Type 0} → (A → ℕ → R) → (FieldRefusal → ℕ → R) → Answer A → R
-back value refused (gives a at) = value a at
-back value refused (refuses n t at) = refused (named n t) at
+-- a refusal with its position, from what is told of it
+abbrev pub back_refused : ℕ → List ℕ → ℕ → Refused
+back_refused n t at = record { refusal = named n t; at = at }
 
-back_u32 : (r : ReadU32) → back U32.Value U32.Refused (told_u32 r) ≡ r
-back_u32 (U32.Value v at) = refl
-back_u32 (U32.Refused r at) = ap (λ x. U32.Refused x at) (renamed r)
+pub same_refused : (e : Refused) → back_refused (numbered e.refusal) (tells e.refusal) e.at ≡ e
+same_refused e = ap (λ (r : FieldRefusal). record { refusal = r; at = e.at }) (renamed e.refusal)
 
-back_bool : (r : ReadBool) → back B.Value B.Refused (told_bool r) ≡ r
-back_bool (B.Value v at) = refl
-back_bool (B.Refused r at) = ap (λ x. B.Refused x at) (renamed r)
+-- an answer, from what is told of it
+abbrev back : {A : Type 0} → Answer A → Result (A × ℕ) Refused
+back (gives a at) = Ok (a, at)
+back (refuses n t at) = Err (back_refused n t at)
 
-back_moved : (r : Moved) → back (λ u. M.To) M.Refused (told_moved r) ≡ r
-back_moved (M.To at) = refl
-back_moved (M.Refused r at) = ap (λ x. M.Refused x at) (renamed r)
+same : {A : Type 0} (r : Result (A × ℕ) Refused) → back (told r) ≡ r
+same (Ok x) = refl
+same (Err e) = ap Err (same_refused e)
 
--- ---- each function's
-pub one_of_u32 : (f : Field ℕ) → OneOf told_u32 f
-one_of_u32 f s at = unique told_u32 (back U32.Value U32.Refused) back_u32 (f s at)
+abbrev back_moved : Answer (Unit {0}) → Result ℕ Refused
+back_moved (gives u at) = Ok at
+back_moved (refuses n t at) = Err (back_refused n t at)
+
+same_moved : (r : Result ℕ Refused) → back_moved (told_moved r) ≡ r
+same_moved (Ok at) = refl
+same_moved (Err e) = ap Err (same_refused e)
+
+-- a read of any type is told of one answer only, and so is a move
+pub one_of : {A : Type 0} (f : Field A) → OneOf told f
+one_of f s at = unique told back same (f s at)
 
 one_moved : (f : Field (Unit {0})) → OneOf told_moved f
-one_moved f s at = unique told_moved (back (λ u. M.To) M.Refused) back_moved (f s at)
+one_moved f s at = unique told_moved back_moved same_moved (f s at)
 
+-- ---- each function's
 pub one_window : OneWindow
 one_window s at = one_named (number (drop (at / 8) s) % 2 ^ 64)
 
@@ -75,10 +79,10 @@ pub one_begin : OneBegin
 one_begin wide = one_moved (begin wide)
 
 pub one_peek_bits : OnePeekBits
-one_peek_bits n = one_of_u32 (peek n)
+one_peek_bits n = one_of (peek n)
 
 pub one_read_bits : OneReadBits
-one_read_bits n = one_of_u32 (read n)
+one_read_bits n = one_of (read n)
 
 pub one_consume_bits : OneConsumeBits
 one_consume_bits n = one_moved (consume n)
@@ -90,7 +94,7 @@ pub one_zero_pad_to_byte : OneZeroPadToByte
 one_zero_pad_to_byte = one_moved pad
 
 pub one_read_bool : OneReadBool
-one_read_bool s at = unique told_bool (back B.Value B.Refused) back_bool (bool s at)
+one_read_bool = one_of bool
 
 pub one_num_read_bits : OneNumReadBits
 one_num_read_bits position = one_named position

@@ -5,7 +5,7 @@ use Rattle.jxl_bit_rules.specs.Answer.{Answer, Field, gives, ◌>>=◌, done}
 use Rattle.jxl_bit_rules.specs.Bits.{Bytes, number, bits, bit, end, start}
 use Rattle.jxl_bit_rules.specs.Readers.{begin, read, peek, consume, skip, pad, bool}
 use Rattle.jxl_base.specs.OneAnswer.{OneAnswer}
-use Rattle.jxl_bit_rules.specs.Told.{told_u32, told_bool, told_moved}
+use Rattle.jxl_bit_rules.specs.Told.{told, told_moved}
 
 -- ---- the order of the bits
 -- Bits come lowest first within a byte; the first bit read is the lowest of the value.
@@ -53,10 +53,10 @@ abbrev pub OneBegin : Type 0
 OneBegin = (wide : Bool) → OneOf told_moved (begin wide)
 
 abbrev pub OnePeekBits : Type 0
-OnePeekBits = (n : ℕ) → OneOf told_u32 (peek n)
+OnePeekBits = (n : ℕ) → OneOf told (peek n)
 
 abbrev pub OneReadBits : Type 0
-OneReadBits = (n : ℕ) → OneOf told_u32 (read n)
+OneReadBits = (n : ℕ) → OneOf told (read n)
 
 abbrev pub OneConsumeBits : Type 0
 OneConsumeBits = (n : ℕ) → OneOf told_moved (consume n)
@@ -68,7 +68,7 @@ abbrev pub OneZeroPadToByte : Type 0
 OneZeroPadToByte = OneOf told_moved pad
 
 abbrev pub OneReadBool : Type 0
-OneReadBool = OneOf told_bool bool
+OneReadBool = OneOf told bool
 
 abbrev pub OneNumReadBits : Type 0
 OneNumReadBits = (position : ℕ) → OneAnswer (λ (r : ℕ). r ≡ position)

@@ -1,22 +1,19 @@
 -- What document 01 calls each case of each answer.
-use Rattle.std.specs.Prelude.{Bool, ℕ}
+use Rattle.std.specs.Prelude.{ℕ, Result, Ok, Err}
 use Rattle.jxl_bit_rules.specs.Answer.{Answer, gives, refuses}
 use Rattle.jxl_bit_rules.specs.Refusals.{numbered, tells}
-use Rattle.jxl_bit_rules.specs.declared.Moved.TheVariants as M
-use Rattle.jxl_bit_rules.specs.declared.Moved.{Moved}
-use Rattle.jxl_bit_rules.specs.declared.ReadBool.TheVariants as B
-use Rattle.jxl_bit_rules.specs.declared.ReadBool.{ReadBool}
-use Rattle.jxl_bit_rules.specs.declared.ReadU32.TheVariants as U32
-use Rattle.jxl_bit_rules.specs.declared.ReadU32.{ReadU32}
+use Rattle.jxl_bit_rules.specs.declared.Refused.{Refused}
 
-abbrev pub told_u32 : ReadU32 → Answer ℕ
-told_u32 (U32.Value v at) = gives v at
-told_u32 (U32.Refused r at) = refuses (numbered r) (tells r) at
+-- a refusal, where it leaves the reader
+abbrev pub refused : {A : Type 0} → Refused → Answer A
+refused e = refuses (numbered e.refusal) (tells e.refusal) e.at
 
-abbrev pub told_bool : ReadBool → Answer Bool
-told_bool (B.Value v at) = gives v at
-told_bool (B.Refused r at) = refuses (numbered r) (tells r) at
+-- of a read of any type: a value and the position after it, or a refusal
+abbrev pub told : {A : Type 0} → Result (A × ℕ) Refused → Answer A
+told (Ok x) = gives x.0 x.1
+told (Err e) = refused e
 
-abbrev pub told_moved : Moved → Answer (Unit {0})
-told_moved (M.To at) = gives tt at
-told_moved (M.Refused r at) = refuses (numbered r) (tells r) at
+-- of a move
+abbrev pub told_moved : Result ℕ Refused → Answer (Unit {0})
+told_moved (Ok at) = gives tt at
+told_moved (Err e) = refused e

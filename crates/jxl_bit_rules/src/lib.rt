@@ -2,7 +2,7 @@
 // answers. No code: `jxl_bits` has it.
 #![tactic(auto)]
 
-#[derive(Clone, Copy)]
+#[derive(Clone, Copy, PartialEq, Eq)]
 pub enum FieldRefusal {
     UnexpectedEof,
     NonZeroPadding,
@@ -12,21 +12,15 @@ pub enum FieldRefusal {
     TooLong,
 }
 
-// Each answer holds the position after the call, refusals too.
-#[derive(Clone, Copy)]
-pub enum ReadU32 {
-    Value(u32, usize),
-    Refused(FieldRefusal, usize),
+// A refusal, and the position that it leaves the reader at.
+#[derive(Clone, Copy, PartialEq, Eq)]
+pub struct Refused {
+    pub refusal: FieldRefusal,
+    pub at: usize,
 }
 
-#[derive(Clone, Copy)]
-pub enum ReadBool {
-    Value(bool, usize),
-    Refused(FieldRefusal, usize),
-}
+// A value, and the position after it.
+pub type Read<T> = Result<(T, usize), Refused>;
 
-#[derive(Clone, Copy)]
-pub enum Moved {
-    To(usize),
-    Refused(FieldRefusal, usize),
-}
+// The position after a move.
+pub type Moved = Result<usize, Refused>;

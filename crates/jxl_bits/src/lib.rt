@@ -6,26 +6,26 @@ ghost use Rattle.std.specs.Prelude.{◌≡◌};
 ghost use Rattle.jxl_bit_rules.specs.Readers as F;
 ghost use Rattle.jxl_bit_rules.specs.Told.{told_moved};
 
+use jxl_begin::Place;
 pub use jxl_begin::begin;
-pub use jxl_bit_rules::{FieldRefusal, Moved, ReadBool, ReadU32};
+pub use jxl_bit_rules::{FieldRefusal, Moved, Read, Refused};
 pub use jxl_moves::{consume_bits, skip_bits};
 pub use jxl_reads::{peek_bits, read_bits, read_bool};
 
 // `ZeroPadToByte`: the bits up to the next byte boundary, which must be 0.
-#[tactic(auto, using(crate::proofs::Padding::pads))]
+#[tactic(auto, unfolding(jxl_bit_rules::specs::Readers::pad))]
 pub fn zero_pad_to_byte(s: &[u8], at: usize) -> Moved
     ensures { told_moved result ≡ F.pad s.now at }
 {
-    let Moved::To(p) = begin(s, at, false) else {
-        return Moved::Refused(FieldRefusal::TooLong, at);
-    };
-    let ReadU32::Value(x, next) = read_bits(s, p, (8 - p % 8) % 8) else {
-        return Moved::Refused(FieldRefusal::UnexpectedEof, p);
-    };
+    let place = Place::new(s, at, false)?;
+    let (x, next) = place.read((8 - place.at % 8) % 8)?;
     if x == 0 {
-        Moved::To(next)
+        Ok(next.at)
     } else {
-        Moved::Refused(FieldRefusal::NonZeroPadding, next)
+        Err(Refused {
+            refusal: FieldRefusal::NonZeroPadding,
+            at: next.at,
+        })
     }
 }
 

@@ -15,7 +15,7 @@ use Rattle.jxl_field_rules.specs.Fields.{four, choice, chosen, select, wide, any
 use Rattle.jxl_field_rules.specs.Inside.{width_of, offset_of, any_over, select_of}
 use Rattle.jxl_field_rules.specs.declared.U32Specifier.TheVariants.{Constant, BitsOffset}
 use Rattle.jxl_field_rules.specs.declared.U32Specifier.{U32Specifier}
-use Rattle.jxl_bit_rules.proofs.Parts.{given}
+use Rattle.jxl_bit_rules.proofs.Parts.{differ, given}
 
 neither : (a b : Bool) → a || b ≡ false → (a ≡ false) × (b ≡ false)
 neither false false e = (refl, refl)
@@ -64,15 +64,27 @@ pub record Laid (d : List U32Specifier) (ws os : List ℕ) : Type 0 where
   pub offsets : (k : ℕ) → k < 4 → get_or os k 0 ≡ offset_of (chosen d k)
   pub small : (k : ℕ) → k < 4 → get_or os k 0 < 2 ^ 32
 
+-- as they are read one by one
+pub laid : (d : List U32Specifier) (w0 w1 w2 w3 o0 o1 o2 o3 : ℕ)
+    → w0 ≡ width_of (chosen d 0) → w1 ≡ width_of (chosen d 1) → w2 ≡ width_of (chosen d 2) → w3 ≡ width_of (chosen d 3)
+    → o0 ≡ offset_of (chosen d 0) → o1 ≡ offset_of (chosen d 1) → o2 ≡ offset_of (chosen d 2) → o3 ≡ offset_of (chosen d 3)
+    → o0 < 2 ^ 32 → o1 < 2 ^ 32 → o2 < 2 ^ 32 → o3 < 2 ^ 32
+    → Laid d (w0 ∷ w1 ∷ w2 ∷ w3 ∷ []) (o0 ∷ o1 ∷ o2 ∷ o3 ∷ [])
+laid d w0 w1 w2 w3 o0 o1 o2 o3 ew0 ew1 ew2 ew3 eo0 eo1 eo2 eo3 s0 s1 s2 s3 = record {
+  widths = each (λ k. get_or (w0 ∷ w1 ∷ w2 ∷ w3 ∷ []) k 0 ≡ width_of (chosen d k)) ew0 ew1 ew2 ew3;
+  offsets = each (λ k. get_or (o0 ∷ o1 ∷ o2 ∷ o3 ∷ []) k 0 ≡ offset_of (chosen d k)) eo0 eo1 eo2 eo3;
+  small = each (λ k. get_or (o0 ∷ o1 ∷ o2 ∷ o3 ∷ []) k 0 < 2 ^ 32) s0 s1 s2 s3;
+}
+
 over_width : (d : U32Specifier) → over (width_of d) ≡ wide d
 over_width (Constant c) = refl
 over_width (BitsOffset o n) = refl
 
-module _ (d : List U32Specifier) (ws os : List ℕ) (laid : Laid d ws os) where
+module _ (d : List U32Specifier) (ws os : List ℕ) (four : Laid d ws os) where
   pub any_over_lem : any_over ws ≡ any_wide d
   unfolding any_wide
   any_over_lem =
-      let w : (k : ℕ) → k < 4 → over (get_or ws k 0) ≡ wide (chosen d k) = λ k h. ap over (laid.widths k h) ∙ over_width (chosen d k) in
+      let w : (k : ℕ) → k < 4 → over (get_or ws k 0) ≡ wide (chosen d k) = λ k h. ap over (four.widths k h) ∙ over_width (chosen d k) in
       rw (w 0 (omega arith), w 1 (omega arith), w 2 (omega arith), w 3 (omega arith))
 
   pub selects : (s : List ℕ) (at : ℕ) → select_of ws os s at ≡ select d s at
@@ -84,38 +96,24 @@ module _ (d : List U32Specifier) (ws os : List ℕ) (laid : Laid d ws os) where
       go (refuses r t p) e = refl
       go (gives k p) e =
           let g = given 2 s at k p (sym e) in
-          let o = laid.offsets k g.below in
-          let small = laid.small k g.below in
-          rw (laid.widths k g.below, o) (as_offset (chosen d k) s p (omega (arith, g.within)) (omega arith))
+          let o = four.offsets k g.below in
+          let small = four.small k g.below in
+          rw (four.widths k g.below, o) (as_offset (chosen d k) s p (omega (arith, g.within)) (omega arith))
 
 -- ---- Enum's four
-abbrev pub enum_widths : List ℕ
-enum_widths = 0 ∷ 0 ∷ 4 ∷ 6 ∷ []
+-- a part of no bits is never refused
+pub never_refused : {A : Type 0} (s : List ℕ) (at r : ℕ) (t : List ℕ) (p : ℕ) → at ≤ end s → refuses r t p ≡ part 0 s at → A
+never_refused s at r t p h e = differ (sym (e ∙ no_bits s at h))
 
-abbrev pub enum_offsets : List ℕ
-enum_offsets = 0 ∷ 1 ∷ 2 ∷ 18 ∷ []
-
-pub enum_laid : Laid four enum_widths enum_offsets
-enum_laid = record {
-  widths = each (λ k. get_or enum_widths k 0 ≡ width_of (chosen four k)) refl refl refl refl;
-  offsets = each (λ k. get_or enum_offsets k 0 ≡ offset_of (chosen four k)) refl refl refl refl;
-  small = each (λ k. get_or enum_offsets k 0 < 2 ^ 32) (omega arith) (omega arith) (omega arith) (omega arith);
-}
-
--- as the code computes them
-module _ (k : ℕ) (h : k < 4) where
-  pub width_low : k < 2 → 0 ≡ get_or enum_widths k 0
-  width_low = each (λ k. k < 2 → 0 ≡ get_or enum_widths k 0) (λ l. refl) (λ l. refl) (λ l. absurd (omega arith)) (λ l. absurd (omega arith)) k h
-
-  pub width_high : 2 ≤ k → 2 * k ≡ get_or enum_widths k 0
-  width_high = each (λ k. 2 ≤ k → 2 * k ≡ get_or enum_widths k 0) (λ l. absurd (omega arith)) (λ l. absurd (omega arith)) (λ l. refl) (λ l. refl) k h
-
-  pub offset_low : k < 3 → k ≡ get_or enum_offsets k 0
-  offset_low = each (λ k. k < 3 → k ≡ get_or enum_offsets k 0) (λ l. refl) (λ l. refl) (λ l. refl) (λ l. absurd (omega arith)) k h
-
-  pub offset_high : 3 ≤ k → 18 ≡ get_or enum_offsets k 0
-  offset_high = each (λ k. 3 ≤ k → 18 ≡ get_or enum_offsets k 0) (λ l. absurd (omega arith)) (λ l. absurd (omega arith)) (λ l. absurd (omega arith)) (λ l. refl) k h
-
-  -- their sum is small
-  pub sum_below : (x : ℕ) → x < 2 ^ get_or enum_widths k 0 → x + get_or enum_offsets k 0 < 2 ^ 32
-  sum_below x = each (λ k. x < 2 ^ get_or enum_widths k 0 → x + get_or enum_offsets k 0 < 2 ^ 32) (λ l. omega arith) (λ l. omega arith) (λ l. omega arith) (λ l. omega arith) k h
+-- where the part is refused, of the width as the code computes it: none for the constants, else twice the selector
+pub four_refused : (s : List ℕ) (at k p w r : ℕ) (t : List ℕ) (q : ℕ) → gives k p ≡ part 2 s at → (k < 2 → w ≡ 0) → (2 ≤ k → w ≡ 2 * k)
+    → refuses r t q ≡ part w s p → refuses r t q ≡ select four s at
+unfolding select
+four_refused s at k p w r t q first low high h =
+    let g = given 2 s at k p first in
+    rw (← first) (each (λ k. (k < 2 → w ≡ 0) → (2 ≤ k → w ≡ 2 * k) → refuses r t q ≡ choice (chosen four k) s p)
+        (λ l m. never_refused s p r t q g.within (h ∙ ap (λ (n : ℕ). part n s p) (l (omega arith))))
+        (λ l m. never_refused s p r t q g.within (h ∙ ap (λ (n : ℕ). part n s p) (l (omega arith))))
+        (λ l m. let e = h ∙ ap (λ (n : ℕ). part n s p) (m (omega arith)) in rw (← e))
+        (λ l m. let e = h ∙ ap (λ (n : ℕ). part n s p) (m (omega arith)) in rw (← e))
+        k g.below low high)

@@ -10,15 +10,14 @@ use borrow.Author.Tests.{eq-eqb, ne_eqb}
 use lib.Arith.{digits_lt}
 use lib.Bits.{bit_or, or_shifted_r}
 use lib.Dec.{eqb}
-use lib.ListN.{length, get_or, drop}
+use lib.ListN.{length, drop}
 use lib.Pow.{pow-add, shl_exact}
 use Rattle.jxl_bit_rules.specs.Answer.{Field, gives, refuses, ◌>>=◌, done}
 use Rattle.jxl_bit_rules.specs.Bits.{end}
 use Rattle.jxl_bit_rules.specs.Readers.{begin, part}
 use Rattle.jxl_field_rules.specs.Fields.{chunks, places, plus, u64_by, u64}
-use Rattle.jxl_bit_rules.specs.Refusals.{eof}
 use Rattle.jxl_field_rules.specs.Theorems.{AtMost73}
-use Rattle.jxl_field_rules.proofs.Choices.{no_bits}
+use Rattle.jxl_field_rules.proofs.Choices.{never_refused}
 use Rattle.jxl_bit_rules.proofs.Parts.{begun, gave, given}
 
 -- the places in turn
@@ -33,10 +32,10 @@ place (suc (suc (suc (suc (suc (suc i)))))) h = absurd (omega arith)
 
 module _ (v : ℕ) (s : List ℕ) (at : ℕ) where
   -- no flag is left
-  pub no_flag : (ps : List ℕ) → part 1 s at ≡ refuses eof [] at → chunks ps v s at ≡ refuses eof [] at
+  pub no_flag : (ps : List ℕ) (r : ℕ) (t : List ℕ) (p : ℕ) → refuses r t p ≡ part 1 s at → refuses r t p ≡ chunks ps v s at
   unfolding chunks
-  no_flag [] h = rw h
-  no_flag (p ∷ ps) h = rw h
+  no_flag [] r t p h = rw (← h)
+  no_flag (b ∷ ps) r t p h = rw (← h)
 
   module _ (flag after : ℕ) (h : gives flag after ≡ part 1 s at) where
     -- the flag is not 1
@@ -46,13 +45,9 @@ module _ (v : ℕ) (s : List ℕ) (at : ℕ) where
     stop (p ∷ ps) n = rw (← h, ne_eqb flag 1 n)
 
     -- it is 1, and no chunk is left
-    pub no_chunk : (p : ℕ) (ps : List ℕ) → flag ≡ 1 → part 8 s after ≡ refuses eof [] after → chunks (p ∷ ps) v s at ≡ refuses eof [] after
+    pub no_chunk : (b : ℕ) (ps : List ℕ) (r : ℕ) (t : List ℕ) (p : ℕ) → flag ≡ 1 → refuses r t p ≡ part 8 s after → refuses r t p ≡ chunks (b ∷ ps) v s at
     unfolding chunks
-    no_chunk p ps e k = rw (← h, eq-eqb flag 1 e, k)
-
-    pub no_last : flag ≡ 1 → part 4 s after ≡ refuses eof [] after → chunks [] v s at ≡ refuses eof [] after
-    unfolding chunks
-    no_last e k = rw (← h, eq-eqb flag 1 e, k)
+    no_chunk b ps r t p e k = rw (← h, eq-eqb flag 1 e, ← k)
 
     -- a chunk, and on; or the last one
     pub more : (p : ℕ) (ps : List ℕ) (x next : ℕ) → flag ≡ 1 → gives x next ≡ part 8 s after → chunks (p ∷ ps) v s at ≡ chunks ps (v + x * 2 ^ p) s next
@@ -82,28 +77,15 @@ three P a b c (suc (suc (suc k))) h = absurd (omega arith)
 pub by_chunks : (k : ℕ) → 2 < k → (s : List ℕ) (at : ℕ) → u64_by k s at ≡ (part 12 >>= λ x. chunks places x) s at
 by_chunks k h s at = rw (ne_eqb k 0 (λ e. omega arith), ne_eqb k 1 (λ e. omega arith), ne_eqb k 2 (λ e. omega arith))
 
-abbrev pub short_widths : List ℕ
-short_widths = 0 ∷ 4 ∷ 8 ∷ []
-
-abbrev pub short_offsets : List ℕ
-short_offsets = 0 ∷ 1 ∷ 17 ∷ []
-
--- the others, as the code computes them
-module _ (k : ℕ) (h : k ≤ 2) where
-  pub width_two : k ≡ 2 → 8 ≡ get_or short_widths k 0
-  width_two e = rw e
-
-  pub width_less : (k ≡ 2 → ⊥) → 4 * k ≡ get_or short_widths k 0
-  width_less = three (λ k. (k ≡ 2 → ⊥) → 4 * k ≡ get_or short_widths k 0) (λ n. refl) (λ n. refl) (λ n. absurd (n refl)) k h
-
-  pub offset_two : k ≡ 2 → 17 ≡ get_or short_offsets k 0
-  offset_two e = rw e
-
-  pub offset_less : (k ≡ 2 → ⊥) → k ≡ get_or short_offsets k 0
-  offset_less = three (λ k. (k ≡ 2 → ⊥) → k ≡ get_or short_offsets k 0) (λ n. refl) (λ n. refl) (λ n. absurd (n refl)) k h
-
-  pub by_plus : (s : List ℕ) (at : ℕ) → at ≤ end s → plus (get_or short_widths k 0) (get_or short_offsets k 0) s at ≡ u64_by k s at
-  by_plus s at l = three (λ k. plus (get_or short_widths k 0) (get_or short_offsets k 0) s at ≡ u64_by k s at) (rw (no_bits s at l)) refl refl k h
+-- the others, where the part is refused, of the width as the code computes it
+pub short_refused : (k : ℕ) → k ≤ 2 → (s : List ℕ) (at w r : ℕ) (t : List ℕ) (p : ℕ) → at ≤ end s → (k ≡ 2 → w ≡ 8) → ((k ≡ 2 → ⊥) → w ≡ 4 * k)
+    → refuses r t p ≡ part w s at → refuses r t p ≡ u64_by k s at
+short_refused k l s at w r t p within two less h =
+    three (λ k. (k ≡ 2 → w ≡ 8) → ((k ≡ 2 → ⊥) → w ≡ 4 * k) → refuses r t p ≡ u64_by k s at)
+        (λ m n. never_refused s at r t p within (h ∙ ap (λ (j : ℕ). part j s at) (n (λ e. absurd (omega arith)))))
+        (λ m n. let e = h ∙ ap (λ (j : ℕ). part j s at) (n (λ e. absurd (omega arith))) in rw (← e))
+        (λ m n. let e = h ∙ ap (λ (j : ℕ). part j s at) (m refl) in rw (← e))
+        k l two less
 
 -- ---- U64 takes at most 73 bits
 same_place : {A : Type 0} {a b : A} {p q : ℕ} → gives a p ≡ gives b q → p ≡ q

@@ -1,33 +1,26 @@
--- Membership: in the rest of a list; and what is a member stands in the list, so what Enum gives does.
+-- Membership, as the library tests it; and what is a member stands in the list, so what Enum gives does.
 -- Assumes nothing.
 use mathlib.Core.Bool.{Bool, true, false, cond, ◌||◌}
 use mathlib.Core.List.{List, [], ◌∷◌}
-use mathlib.Core.Path.{◌≡◌, refl, sym}
-use Prim.Native.Nat.{ℕ, suc, ◌+◌, ◌≤◌, ◌<◌}
-use native.Mathlib.Numerals.{add-one}
+use Rattle.std.specs.Prelude.{nat_eq}
+use Rattle.std.specs.List.{list_any}
+use mathlib.Core.Path.{◌≡◌, refl, sym, ap}
+use Prim.Native.Nat.{ℕ, suc, ◌<◌}
 use native.Mathlib.Omega.{arith}
 use borrow.Author.Tests.{eqb-true}
 use lib.Dec.{eqb}
-use lib.ListN.{length, get_or, drop, drop_of_length-le}
-use lib.Seq.{drop-cons}
+use lib.ListN.{length, get_or}
 use Rattle.jxl_bit_rules.specs.Answer.{gives, done, refuse}
 use Rattle.jxl_bit_rules.specs.Refusals.{enum}
 use Rattle.jxl_bit_rules.proofs.Parts.{differ, gave}
 use Rattle.jxl_field_rules.specs.Fields.{four, member, u32, enum_of}
 use Rattle.jxl_field_rules.specs.Theorems.{EnumListed}
 
-module _ (v : ℕ) (l : List ℕ) (i : ℕ) where
-  -- one element more
-  pub passed : i < length l → (found : Bool) → (found || eqb (get_or l i 0) v) || member v (drop (i + 1) l) ≡ found || member v (drop i l)
-  unfolding member
-  passed h true = refl
-  passed h false = rw (add-one, drop-cons l i 0 h)
-
-  -- all of them
-  pub all_passed : length l ≤ i → (found : Bool) → found || member v (drop i l) ≡ found
-  unfolding member
-  all_passed h true = refl
-  all_passed h false = rw (drop_of_length-le l h)
+-- the library's test is membership
+pub contained : (v : ℕ) (l : List ℕ) → list_any (λ y. nat_eq y v) l ≡ member v l
+unfolding member
+contained v [] = refl
+contained v (x ∷ l) = ap (◌||◌ (eqb x v)) (contained v l)
 
 -- a member stands somewhere in the list
 stands : (v : ℕ) (l : List ℕ) → member v l ≡ true → (i : ℕ) × (i < length l) × (get_or l i 0 ≡ v)

@@ -1,4 +1,3 @@
-pub mod Told
 pub mod Fields
 pub mod Inside
 pub mod Theorems

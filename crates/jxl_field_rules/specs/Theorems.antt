@@ -4,9 +4,8 @@ use Rattle.std.specs.Prelude.{◌≡◌, List, ℕ, ◌+◌, ◌≤◌, ◌<◌,
 use Rattle.jxl_bit_rules.specs.Answer.{gives}
 use Rattle.jxl_bit_rules.specs.Bits.{start}
 use Rattle.jxl_bit_rules.specs.Theorems.{OneOf}
-use Rattle.jxl_bit_rules.specs.Told.{told_u32}
+use Rattle.jxl_bit_rules.specs.Told.{told}
 use Rattle.jxl_field_rules.specs.Fields.{u32, u64, enum_of, f16, ExactlyGiven}
-use Rattle.jxl_field_rules.specs.Told.{told_u64, told_f16}
 use Rattle.jxl_field_rules.specs.declared.U32Specifier.{U32Specifier}
 
 -- U64: at most 73 bits.
@@ -23,14 +22,14 @@ EnumListed = (list s : List ℕ) (at v p : ℕ) → enum_of list s at ≡ gives 
 
 -- ---- one answer
 abbrev pub OneReadU32 : Type 0
-OneReadU32 = (d : List U32Specifier) → OneOf told_u32 (u32 d)
+OneReadU32 = (d : List U32Specifier) → OneOf told (u32 d)
 
 abbrev pub OneReadU64 : Type 0
-OneReadU64 = OneOf told_u64 u64
+OneReadU64 = OneOf told u64
 
 abbrev pub OneReadEnum : Type 0
-OneReadEnum = (list : List ℕ) → OneOf told_u32 (enum_of list)
+OneReadEnum = (list : List ℕ) → OneOf told (enum_of list)
 
 -- its first clause alone says which
 abbrev pub OneReadF16AsF32 : Type 0
-OneReadF16AsF32 = OneOf told_f16 f16
+OneReadF16AsF32 = OneOf told f16

@@ -1,10 +1,8 @@
 -- What the code is answered: the f32, or refusal 5 for exponent 31.
-use Rattle.std.specs.Prelude.{cond, ℕ, eqb, Float}
+use Rattle.std.specs.Prelude.{cond, ℕ, eqb, Float, Option, Some, None}
 use Rattle.std.specs.Float.{binary32}
 use Rattle.std.specs.Float.Ieee.{of_bits}
 use Rattle.jxl_half.specs.Half.{exponent, pattern, Exactly}
-use Rattle.jxl_half.specs.declared.Widened.TheVariants.{Value, InvalidFloat}
-use Rattle.jxl_half.specs.declared.Widened.{Widened}
 
 -- the f32, or a refusal by its number
 pub data Wide : Type 0 where
@@ -15,9 +13,9 @@ unfoldable pub widened : ℕ → Wide
 widened v = cond (eqb (exponent v) 31) (refuses 5) (gives (of_bits binary32 (pattern v)))
 
 -- what each case of the answer is called
-abbrev pub told : Widened → Wide
-told (Value x) = gives x
-told InvalidFloat = refuses 5
+abbrev pub told : Option Float → Wide
+told (Some x) = gives x
+told None = refuses 5
 
 -- what is given is exactly the code's number
 abbrev pub ExactlyWidened : ℕ → Wide → Type 0

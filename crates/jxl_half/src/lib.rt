@@ -7,12 +7,6 @@ ghost use Rattle.std.specs.Float.Ieee.{of_bits};
 ghost use Rattle.jxl_half.specs.Half.{magnitude};
 ghost use Rattle.jxl_half.specs.Widen.{ExactlyWidened, told, widened};
 
-#[derive(Clone, Copy)]
-pub enum Widened {
-    Value(f32),
-    InvalidFloat,
-}
-
 // An F16 whose exponent is 0: zero, or `m` units of 2^-24.
 fn subnormal(sign: u32, m: u32) -> f32
     requires { (sign < 2) × (m < 1024) }
@@ -25,9 +19,9 @@ fn subnormal(sign: u32, m: u32) -> f32
     if sign == 0 { val } else { -val }
 }
 
-// The f32 that is the same number as an F16 code; exponent 31 is no number.
+// The f32 that is the same number as an F16 code; exponent 31 is no number, and that is None.
 #[tactic(auto, using(crate::proofs::Halves::refused_code))]
-pub fn widen(code: u16) -> Widened
+pub fn widen(code: u16) -> Option<f32>
     ensures result_value { told result ≡ widened code }
     ensures exactly_widened { ExactlyWidened code (told result) }
 {
@@ -36,12 +30,12 @@ pub fn widen(code: u16) -> Widened
     let exponent = v / 1024 % 32;
     let mantissa = v % 1024;
     if exponent == 31 {
-        return Widened::InvalidFloat;
+        return None;
     }
     if exponent == 0 {
-        return Widened::Value(subnormal(sign, mantissa));
+        return Some(subnormal(sign, mantissa));
     }
-    Widened::Value(f32::from_bits(
+    Some(f32::from_bits(
         sign * 0x8000_0000 + (exponent + 112) * 0x80_0000 + mantissa * 0x2000,
     ))
 }

@@ -3,45 +3,41 @@
 
 ghost use Rattle.std.specs.Prelude.{◌≡◌};
 ghost use Rattle.jxl_bit_rules.specs.Readers as F;
-ghost use Rattle.jxl_bit_rules.specs.Inside.{Ready};
 ghost use Rattle.jxl_bit_rules.specs.Told.{told_moved};
+ghost use Rattle.jxl_begin.specs.Places.{here};
 
-use jxl_begin::begin;
-use jxl_bit_rules::{FieldRefusal, Moved};
+use jxl_begin::Place;
+use jxl_bit_rules::{FieldRefusal, Moved, Refused};
 
 // On by `n` if that many bits are left; else a refusal that leaves the reader at `stop`.
-fn step(s: &[u8], p: usize, n: usize, stop: usize) -> Moved
-    requires { Ready s.now p 0 }
-    ensures { told_moved result ≡ F.move n stop s.now p }
+fn step(place: Place, n: usize, stop: usize) -> Moved
+    ensures { told_moved result ≡ here (F.move n stop) place.entry }
 {
-    if n <= 8 * s.len() - p {
-        Moved::To(p + n)
+    if n <= 8 * place.bytes.len() - place.at {
+        Ok(place.at + n)
     } else {
-        Moved::Refused(FieldRefusal::UnexpectedEof, stop)
+        Err(Refused {
+            refusal: FieldRefusal::UnexpectedEof,
+            at: stop,
+        })
     }
 }
 
 // Moves on by `n`, up to 32; where fewer bits are left it stays.
-#[tactic(auto, using(jxl_bit_rules::proofs::Parts::ready), unfolding(jxl_bit_rules::specs::Readers::consume))]
+#[tactic(auto, unfolding(jxl_bit_rules::specs::Readers::consume))]
 pub fn consume_bits(s: &[u8], at: usize, n: usize) -> Moved
     ensures { told_moved result ≡ F.consume n s.now at }
 {
-    match begin(s, at, 32 < n) {
-        Moved::Refused(refusal, p) => Moved::Refused(refusal, p),
-        Moved::To(p) => step(s, p, n, p),
-    }
+    let place = Place::new(s, at, 32 < n)?;
+    step(place, n, place.at)
 }
 
 // Moves on by `n`; where fewer bits are left it goes to the end.
-#[tactic(auto, using(jxl_bit_rules::proofs::Parts::ready), unfolding(jxl_bit_rules::specs::Readers::skip))]
+#[tactic(auto, unfolding(jxl_bit_rules::specs::Readers::skip))]
 pub fn skip_bits(s: &[u8], at: usize, n: usize) -> Moved
     ensures { told_moved result ≡ F.skip n s.now at }
 {
-    match begin(s, at, false) {
-        Moved::Refused(refusal, p) => Moved::Refused(refusal, p),
-        Moved::To(p) => {
-            let end = 8 * s.len();
-            step(s, p, n, end)
-        }
-    }
+    let place = Place::new(s, at, false)?;
+    let end = 8 * s.len();
+    step(place, n, end)
 }

@@ -2,58 +2,36 @@
 #![tactic(auto)]
 
 ghost use Rattle.std.specs.Prelude.{◌≡◌};
-ghost use Rattle.jxl_bit_rules.specs.Bits.{bits};
 ghost use Rattle.jxl_bit_rules.specs.Readers as F;
-ghost use Rattle.jxl_bit_rules.specs.Inside.{Ready};
-ghost use Rattle.jxl_bit_rules.specs.Told.{told_u32, told_bool};
+ghost use Rattle.jxl_bit_rules.specs.Told.{told};
 
-use jxl_begin::begin;
-use jxl_bit_rules::{FieldRefusal, Moved, ReadBool, ReadU32};
-
-// The `n` bits at `at`, those beyond the end as 0.
-fn look(s: &[u8], at: usize, n: usize) -> u32
-    requires { Ready s.now at n }
-    ensures { result ≡ bits s.now at n }
-{
-    let w = jxl_window::window(s, at) >> (at % 8);
-    (w & ((1u64 << n) - 1)) as u32
-}
+use jxl_begin::Place;
+use jxl_bit_rules::Read;
 
 // The next `n` bits, up to 32, with missing bits as 0. Nothing is consumed.
-#[tactic(auto, using(jxl_bit_rules::proofs::Parts::ready, jxl_bit_rules::proofs::Parts::begun), unfolding(jxl_bit_rules::specs::Readers::peek))]
-pub fn peek_bits(s: &[u8], at: usize, n: usize) -> ReadU32
-    ensures { told_u32 result ≡ F.peek n s.now at }
+#[tactic(auto, using(jxl_bit_rules::proofs::Parts::begun), unfolding(jxl_bit_rules::specs::Readers::peek))]
+pub fn peek_bits(s: &[u8], at: usize, n: usize) -> Read<u32>
+    ensures { told result ≡ F.peek n s.now at }
 {
-    match begin(s, at, 32 < n) {
-        Moved::Refused(refusal, p) => ReadU32::Refused(refusal, p),
-        Moved::To(p) => ReadU32::Value(look(s, p, n), p),
-    }
+    let place = Place::new(s, at, 32 < n)?;
+    Ok((place.look(n), place.at))
 }
 
 // The next `n` bits, up to 32.
-#[tactic(auto, using(jxl_bit_rules::proofs::Parts::ready, jxl_bit_rules::proofs::Parts::begun), unfolding(jxl_bit_rules::specs::Readers::read, jxl_bit_rules::specs::Readers::part))]
-pub fn read_bits(s: &[u8], at: usize, n: usize) -> ReadU32
-    ensures { told_u32 result ≡ F.read n s.now at }
+#[tactic(auto, using(jxl_bit_rules::proofs::Parts::begun), unfolding(jxl_bit_rules::specs::Readers::read))]
+pub fn read_bits(s: &[u8], at: usize, n: usize) -> Read<u32>
+    ensures { told result ≡ F.read n s.now at }
 {
-    match begin(s, at, 32 < n) {
-        Moved::Refused(refusal, p) => ReadU32::Refused(refusal, p),
-        Moved::To(p) => {
-            if n <= 8 * s.len() - p {
-                ReadU32::Value(look(s, p, n), p + n)
-            } else {
-                ReadU32::Refused(FieldRefusal::UnexpectedEof, p)
-            }
-        }
-    }
+    let place = Place::new(s, at, 32 < n)?;
+    let (x, next) = place.read(n)?;
+    Ok((x, next.at))
 }
 
 // `Bool`: 1 bit.
 #[tactic(auto, unfolding(jxl_bit_rules::specs::Readers::bool))]
-pub fn read_bool(s: &[u8], at: usize) -> ReadBool
-    ensures { told_bool result ≡ F.bool s.now at }
+pub fn read_bool(s: &[u8], at: usize) -> Read<bool>
+    ensures { told result ≡ F.bool s.now at }
 {
-    match read_bits(s, at, 1) {
-        ReadU32::Refused(refusal, p) => ReadBool::Refused(refusal, p),
-        ReadU32::Value(x, p) => ReadBool::Value(x == 1, p),
-    }
+    let (x, p) = read_bits(s, at, 1)?;
+    Ok((x == 1, p))
 }

@@ -1,35 +1,46 @@
 -- What is proved of results besides the functions' promises: each statement is a type, which proofs/ proves under the same name in small letters.
-use Rattle.std.specs.Prelude.{◌≡◌, ℕ}
+use Rattle.std.specs.Prelude.{◌≡◌, Bool, ℕ, Float, Result}
 use Rattle.jxl_base.specs.OneAnswer.{OneAnswer}
 use Rattle.jxl_bit_rules.specs.Answer.{Answer}
-use Rattle.jxl_bit_rules.specs.Told.{told_u32, told_bool, told_moved}
-use Rattle.jxl_bit_rules.specs.declared.Moved.{Moved}
-use Rattle.jxl_bit_rules.specs.declared.ReadBool.{ReadBool}
-use Rattle.jxl_bit_rules.specs.declared.ReadU32.{ReadU32}
-use Rattle.jxl_results.specs.Results.{u32_at, bool_at, unit_at}
-use Rattle.jxl_results.specs.declared.SplitBool.{SplitBool}
-use Rattle.jxl_results.specs.declared.SplitU32.{SplitU32}
-use Rattle.jxl_results.specs.declared.SplitUnit.{SplitUnit}
+use Rattle.jxl_bit_rules.specs.Told.{told, told_moved}
+use Rattle.jxl_bit_rules.specs.declared.FieldRefusal.{FieldRefusal}
+use Rattle.jxl_bit_rules.specs.declared.Refused.{Refused}
+use Rattle.jxl_results.specs.Results.{result_at}
 
 -- an answer is of one result and one position
-abbrev pub OneAt : {R A : Type 0} → (R → ℕ → Answer A) → Type 0
-OneAt {R} {A} result_at = (a : Answer A) → OneAnswer (λ (x : R × ℕ). result_at x.0 x.1 ≡ a)
+abbrev pub OneAt : Type 0 → Type 0
+OneAt A = (a : Answer A) → OneAnswer (λ (x : Result A FieldRefusal × ℕ). result_at x.0 x.1 ≡ a)
 
 abbrev pub OneU32 : Type 0
-OneU32 = OneAt u32_at
+OneU32 = OneAt ℕ
 
 abbrev pub OneBool : Type 0
-OneBool = OneAt bool_at
+OneBool = OneAt Bool
 
 abbrev pub OneUnit : Type 0
-OneUnit = OneAt unit_at
+OneUnit = OneAt (Unit {0})
+
+abbrev pub OneU64 : Type 0
+OneU64 = OneAt ℕ
+
+abbrev pub OneF32 : Type 0
+OneF32 = OneAt Float
 
 -- ---- one answer of each function
+abbrev pub OneSplit : Type 0 → Type 0
+OneSplit A = (answer : Result (A × ℕ) Refused) → OneAnswer (λ (x : Result A FieldRefusal × ℕ). result_at x.0 x.1 ≡ told answer)
+
 abbrev pub OneSplitU32 : Type 0
-OneSplitU32 = (answer : ReadU32) → OneAnswer (λ (r : SplitU32). u32_at r.result r.at ≡ told_u32 answer)
+OneSplitU32 = OneSplit ℕ
 
 abbrev pub OneSplitBool : Type 0
-OneSplitBool = (answer : ReadBool) → OneAnswer (λ (r : SplitBool). bool_at r.result r.at ≡ told_bool answer)
+OneSplitBool = OneSplit Bool
 
 abbrev pub OneSplitUnit : Type 0
-OneSplitUnit = (answer : Moved) → OneAnswer (λ (r : SplitUnit). unit_at r.result r.at ≡ told_moved answer)
+OneSplitUnit = (answer : Result ℕ Refused) → OneAnswer (λ (x : Result (Unit {0}) FieldRefusal × ℕ). result_at x.0 x.1 ≡ told_moved answer)
+
+abbrev pub OneSplitU64 : Type 0
+OneSplitU64 = OneSplit ℕ
+
+abbrev pub OneSplitF32 : Type 0
+OneSplitF32 = OneSplit Float

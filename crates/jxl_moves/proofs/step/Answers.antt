@@ -5,10 +5,10 @@ use Rattle.jxl_bit_rules.specs.Bits.{end}
 use Rattle.jxl_bit_rules.specs.Readers.{move}
 use Rattle.jxl_moves.proofs.step.Goals as goal
 
-pub returns-then-n-s : goal.returns-then-n-s
+pub returns-then-n-place : goal.returns-then-n-place
 unfolding move
-returns-then-n-s c = rw (le-leb (c.args.p + c.args.n) (end c.args.s.now) (omega arith))
+returns-then-n-place c = rw (le-leb (c.args.place.at + c.args.n) (end c.args.place.bytes.now) (omega arith))
 
-pub returns-else-n-s : goal.returns-else-n-s
+pub returns-else-n-place : goal.returns-else-n-place
 unfolding move
-returns-else-n-s c = rw (lt-leb (c.args.p + c.args.n) (end c.args.s.now) (omega arith))
+returns-else-n-place c = rw (lt-leb (c.args.place.at + c.args.n) (end c.args.place.bytes.now) (omega arith))
