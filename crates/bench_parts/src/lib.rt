@@ -2,86 +2,82 @@
 #![tactic(auto)]
 
 use jxl_container::{ContainerParser, FileEvent, ParseEvent, StepResult};
-use jxl_slices::part;
 
-// Where a packet of `packet` bytes ends that begins at `end`; the last one ends with the file.
-pub fn packet_end(end: usize, packet: usize, len: usize) -> usize {
-    if len < end {
-        return len;
+// A file that is given in packets of one length: how much of it is consumed, and where the newest packet ends.
+#[derive(Clone, Copy)]
+pub struct Packets<'f> {
+    file: &'f [u8],
+    packet: usize,
+    consumed: usize,
+    end: usize,
+}
+
+impl<'f> Packets<'f> {
+    // The first packet of a file.
+    pub fn new(file: &'f [u8], packet: usize) -> Self {
+        Packets {
+            file,
+            packet,
+            consumed: 0,
+            end: packet.min(file.len()),
+        }
     }
-    if len - end < packet {
-        len
-    } else {
-        std::num::wrapping_add_usize(end, packet)
+
+    // The newest packet, behind the bytes that were left unread.
+    pub fn input(&self) -> &'f [u8] {
+        jxl_slices::part(self.file, self.consumed, self.end)
+    }
+
+    pub fn consume(&mut self, count: usize) {
+        self.consumed = self.consumed.wrapping_add(count);
+    }
+
+    // Goes on to the next packet, the last of which ends with the file: whether there is one.
+    pub fn has_next(&mut self) -> bool {
+        if self.end == self.file.len() {
+            return false;
+        }
+        self.end = self.end.saturating_add(self.packet).min(self.file.len());
+        true
     }
 }
 
 // What an event adds to the sum: 1, and for a payload its length.
 pub fn weight(event: FileEvent) -> u64 {
-    let shown = event.event;
-    match shown {
-        ParseEvent::Codestream { at: _, len } => std::num::wrapping_add_u64(len as u64, 1),
-        ParseEvent::AuxBoxData { ty: _, at: _, len } => std::num::wrapping_add_u64(len as u64, 1),
-        ParseEvent::BitstreamKind(_) => 1,
-        ParseEvent::NoMoreAuxBox => 1,
-        ParseEvent::AuxBoxStart {
-            ty: _,
-            brotli_compressed: _,
-            last_box: _,
-        } => 1,
-        ParseEvent::AuxBoxEnd { ty: _ } => 1,
+    match event.event {
+        ParseEvent::Codestream { len, .. } | ParseEvent::AuxBoxData { len, .. } => {
+            (len as u64).wrapping_add(1)
+        }
+        _ => 1,
     }
 }
 
-// The events from `from` on of a file given in packets, each behind the bytes left unread: the sum of their weights. The first
-// packet ends at `first`. A proved loop has to end: after `most` steps.
-pub fn events(
-    p: ContainerParser,
-    file: &[u8],
-    from: usize,
-    first: usize,
-    packet: usize,
-    most: u64,
-) -> u64 {
-    let mut parser = p;
-    let mut at = from;
-    let mut end = first;
+// The events that a parser shows of the packets of a file, each behind the bytes left unread: the sum of their weights. A proved loop has
+// to end: after `most` steps.
+pub fn events(start: ContainerParser, from: Packets<'_>, most: u64) -> u64 {
+    let mut parser = start;
+    let mut packets = from;
     let mut sum: u64 = 0;
-    let mut steps: u64 = 0;
-    while steps < most {
-        match jxl_container::step(parser, part(file, at, end)) {
+    for _ in 0..most {
+        match jxl_container::step(parser, packets.input()) {
             StepResult::Shown {
                 next,
                 consumed,
                 event,
             } => {
                 parser = next;
-                at = std::num::wrapping_add_usize(at, consumed);
-                sum = std::num::wrapping_add_u64(sum, weight(event));
+                packets.consume(consumed);
+                sum = sum.wrapping_add(weight(event));
             }
             StepResult::Want { next, consumed } => {
-                if end == file.len() {
-                    return sum;
-                }
                 parser = next;
-                at = std::num::wrapping_add_usize(at, consumed);
-                end = packet_end(end, packet, file.len());
+                packets.consume(consumed);
+                if !packets.has_next() {
+                    break;
+                }
             }
-            StepResult::Refused {
-                next: _,
-                consumed: _,
-                refusal: _,
-            } => {
-                return sum;
-            }
-            StepResult::Closed {
-                next: _,
-                consumed: _,
-            } => {
-                return sum;
-            }
+            StepResult::Refused { .. } | StepResult::Closed { .. } => break,
         }
-        steps += 1;
     }
     sum
 }

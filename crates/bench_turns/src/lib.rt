@@ -3,26 +3,20 @@
 
 ghost use Rattle.std.specs.Prelude.{◌≤◌};
 
+use bench_parts::Packets;
 use jxl_container::ContainerParser;
 use jxl_joiner::Joiner;
 use jxl_list_turn::TurnEnd;
-
-// Whether a turn ended because the next line has no room.
-fn is_full(end: TurnEnd) -> bool {
-    match end {
-        TurnEnd::Full => true,
-        _ => false,
-    }
-}
 
 // Where the next lines go: behind those written, while there is room for a line; from then on to the front.
 fn place(written: usize, len: usize) -> usize
     ensures { result ≤ len }
 {
-    if len < 64 {
-        return 0;
+    if written <= len.saturating_sub(64) {
+        written
+    } else {
+        0
     }
-    if written <= len - 64 { written } else { 0 }
 }
 
 // The lines of a file given in packets, each behind the bytes left unread: how many bytes they have. Where `out` has room for
@@ -31,28 +25,18 @@ fn place(written: usize, len: usize) -> usize
 pub extern "C" fn bench_turns(file: &[u8], packet: usize, out: &mut [u8], most: u64) -> usize {
     let mut parser = ContainerParser::new();
     let mut joiner = Joiner::new();
-    let mut at = 0;
-    let mut end = bench_parts::packet_end(0, packet, file.len());
-    let mut written = 0;
-    let mut turns: u64 = 0;
-    while turns < most {
-        turns += 1;
+    let mut packets = Packets::new(file, packet);
+    let mut written: usize = 0;
+    for _ in 0..most {
         let from = place(written, out.len());
-        let input = jxl_slices::part(file, at, end);
-        let after = jxl_list_turn::turn(parser, joiner, input, &mut out[from..]);
-        at = std::num::wrapping_add_usize(at, after.consumed);
-        written = std::num::wrapping_add_usize(written, after.written);
-        let why = after.end;
-        if !is_full(why) {
-            if end == file.len() {
-                return written;
-            }
-            end = bench_parts::packet_end(end, packet, file.len());
+        let after = jxl_list_turn::turn(parser, joiner, packets.input(), &mut out[from..]);
+        packets.consume(after.consumed);
+        written = written.wrapping_add(after.written);
+        parser = after.parser;
+        joiner = after.joiner;
+        if !matches!(after.end, TurnEnd::Full) && !packets.has_next() {
+            break;
         }
-        let next = after.parser;
-        parser = next;
-        let held = after.joiner;
-        joiner = held;
     }
     written
 }

@@ -2,20 +2,21 @@
 // event by itself: then the compiler may leave it a function of its own, its record and its answer in memory.
 #![tactic(auto)]
 
+use bench_parts::Packets;
 use jxl_container::{ContainerParser, StepResult};
 
 // The events of a file given in packets, the first of which shows the kind: the sum of their weights.
 #[unsafe(no_mangle)]
 pub extern "C" fn bench_twice(file: &[u8], packet: usize, most: u64) -> u64 {
-    let end = bench_parts::packet_end(0, packet, file.len());
+    let mut packets = Packets::new(file, packet);
     let StepResult::Shown {
         next,
         consumed,
         event,
-    } = jxl_container::step(ContainerParser::new(), jxl_slices::part(file, 0, end))
+    } = jxl_container::step(ContainerParser::new(), packets.input())
     else {
         return 0;
     };
-    let sum = bench_parts::events(next, file, consumed, end, packet, most);
-    std::num::wrapping_add_u64(sum, bench_parts::weight(event))
+    packets.consume(consumed);
+    bench_parts::events(next, packets, most).wrapping_add(bench_parts::weight(event))
 }

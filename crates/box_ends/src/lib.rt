@@ -2,141 +2,83 @@
 // rule that the lists do not spell out.
 #![tactic(auto)]
 
-use box_answers::Feed;
-use jxl_container::{ContainerParser, EndResult, FileRefusal, MaybeEvent, StepResult};
+use box_answers::{Feed, is_repeated};
+use box_lines::Token;
+use jxl_container::{BoxRefusal, ContainerParser, EndResult, FileEvent, FileRefusal, StepResult};
+use std::alloc::AllocError;
 
-// The record that an end call left, the place behind its answer, whether it was done, and the place that a refusal named; done, the total.
-#[derive(Clone, Copy)]
-pub struct Ended {
-    pub parser: ContainerParser,
-    pub to: usize,
-    pub done: bool,
-    pub place: u64,
-}
+// A file that a new parser would take.
+const FILE: &[u8] = b"\xff\x0a";
 
 // Whether the record that was ended answers a feed of `input` Closed, consumes nothing and keeps its total.
-fn is_closed(ended: ContainerParser, input: &[u8], total: u64) -> bool {
-    let StepResult::Closed { next, consumed } = jxl_container::step(ended, input) else {
-        return false;
-    };
-    if consumed != 0 {
-        return false;
-    }
-    next.total == total
+fn is_closed(ended: ContainerParser, input: &[u8]) -> bool {
+    matches!(
+        jxl_container::step(ended, input),
+        StepResult::Closed { next, consumed: 0 } if next.total == ended.total
+    )
 }
 
 // Whether it answers a further end call done, with nothing owed, and keeps its total.
-fn is_done(ended: ContainerParser, unread: &[u8], total: u64) -> bool {
-    let EndResult::Done { next, owed } = jxl_container::end(ended, unread) else {
-        return false;
-    };
-    match owed {
-        MaybeEvent::None => next.total == total,
-        MaybeEvent::Some(_) => false,
-    }
+fn is_done(ended: ContainerParser, unread: &[u8]) -> bool {
+    let again = jxl_container::end(ended, unread);
+    again.next.total == ended.total && matches!(again.answer, Ok(None))
 }
 
 // The three calls behind an end that was done: a feed of nothing, one of a file that a new parser would take, and an end call with it.
-fn stays_closed(ended: ContainerParser, total: u64) -> bool {
-    if ended.total != total {
-        return false;
-    }
-    if !is_closed(ended, b"", total) {
-        return false;
-    }
-    if !is_closed(ended, b"\xff\x0a", total) {
-        return false;
-    }
-    is_done(ended, b"\xff\x0a", total)
+fn stays_closed(ended: ContainerParser) -> bool {
+    is_closed(ended, b"") && is_closed(ended, FILE) && is_done(ended, FILE)
 }
 
 // Whether the refused record repeats its refusal to a further end call, and keeps its total.
 fn is_refused(ended: ContainerParser, unread: &[u8], first: FileRefusal) -> bool {
-    let EndResult::Refused {
-        next,
-        refusal: again,
-    } = jxl_container::end(ended, unread)
-    else {
-        return false;
-    };
-    if next.total != first.total {
-        return false;
-    }
-    box_answers::is_same(first, again)
+    let again = jxl_container::end(ended, unread);
+    again.next.total == first.total && matches!(again.answer, Err(refusal) if refusal == first)
 }
 
 // The same three calls behind an end that was refused.
 fn stays_refused(ended: ContainerParser, first: FileRefusal) -> bool {
-    if ended.total != first.total {
-        return false;
-    }
-    if !box_answers::is_repeated(ended, b"", first) {
-        return false;
-    }
-    if !box_answers::is_repeated(ended, b"\xff\x0a", first) {
-        return false;
-    }
-    is_refused(ended, b"\xff\x0a", first)
+    is_repeated(ended, b"", first)
+        && is_repeated(ended, FILE, first)
+        && is_refused(ended, FILE, first)
 }
 
-// Whether a refusal is by this number, with this total and this place.
-fn is_by(refusal: FileRefusal, number: u32, total: u64, place: u64) -> bool {
-    let rule = refusal.rule;
-    if rule.number() != number {
-        return false;
-    }
-    if refusal.total != total {
-        return false;
-    }
-    refusal.place == place
-}
-
-// Whether an end behind the feed may be refused so: by what the feed ended with, or else CutShort, number 21, at the bytes consumed.
-fn is_due(feed: Feed, refusal: FileRefusal, total: u64) -> bool {
-    if feed.refused {
-        is_by(refusal, feed.rule, total, feed.place)
-    } else {
-        is_by(refusal, 21, total, total)
-    }
+// The refusal that an end behind the feed may give: the one that the feed ended with, or else CutShort, at the bytes consumed.
+fn due(feed: &Feed) -> FileRefusal {
+    let total = feed.total();
+    feed.refusal.unwrap_or(FileRefusal {
+        rule: BoxRefusal::CutShort,
+        total,
+        place: total,
+    })
 }
 
 // Puts the event that is owed, at its place in the file, or that none is, and a mark where it carries another total.
-fn put_owed(out: &mut [u8], to: usize, owed: MaybeEvent, total: u64) -> usize {
-    match owed {
-        MaybeEvent::None => box_lines::nothing(out, to),
-        MaybeEvent::Some(event) => {
-            let placed = event.in_file();
-            let shown = placed.event;
-            let next = box_lines::event(out, to, shown, 0);
-            box_lines::rule(out, next, event.total == total)
-        }
-    }
+fn put_owed(feed: &mut Feed, owed: Option<FileEvent>) -> Result<(), AllocError> {
+    let Some(event) = owed else {
+        return feed.put(Token::Nothing);
+    };
+    let placed = event.in_file();
+    feed.put(Token::Event {
+        event: placed.event,
+        base: 0,
+    })?;
+    feed.hold(event.total == feed.total())
 }
 
-// The end call behind a feed, made with `unread`.
-pub fn end(out: &mut [u8], to: usize, feed: Feed, unread: &[u8]) -> Ended {
-    let parser = feed.parser;
-    let total = std::num::wrapping_add_u64(feed.from, feed.consumed as u64);
-    match jxl_container::end(parser, unread) {
-        EndResult::Done { next, owed } => {
-            let behind = put_owed(out, to, owed, total);
-            Ended {
-                parser: next,
-                to: box_lines::rule(out, behind, stays_closed(next, total)),
-                done: true,
-                place: total,
-            }
+// The end call behind a feed, made with `unread`. Its answer goes behind the feed's.
+pub fn end(feed: &mut Feed, unread: &[u8]) -> Result<EndResult, AllocError> {
+    let ended = jxl_container::end(feed.parser, unread);
+    let total = feed.total();
+    match ended.answer {
+        Ok(owed) => {
+            put_owed(feed, owed)?;
+            feed.hold(ended.next.total == total && stays_closed(ended.next))?;
         }
-        EndResult::Refused { next, refusal } => {
-            let rule = refusal.rule;
-            let behind = box_lines::refusal(out, to, rule);
-            let due = box_lines::rule(out, behind, is_due(feed, refusal, total));
-            Ended {
-                parser: next,
-                to: box_lines::rule(out, due, stays_refused(next, refusal)),
-                done: false,
-                place: refusal.place,
-            }
+        Err(refusal) => {
+            feed.put(Token::Refusal(refusal.rule))?;
+            feed.hold(refusal == due(feed))?;
+            feed.hold(ended.next.total == refusal.total && stays_refused(ended.next, refusal))?;
         }
     }
+    Ok(ended)
 }

@@ -1,51 +1,50 @@
-// Records as text, for the pieces: one read from a line of the list, a letter for its state, the bytes left, the codestream boxes so far, the
-// total; and one printed behind the answers that led to it.
+// Records as text, for the pieces: one read from the words of a line of the list, its state, the bytes left, the codestream boxes so far and
+// the total; and one printed behind the answers that led to it.
 #![tactic(auto)]
 
 use jxl_headers::BytesLeft;
 use jxl_record::{BitstreamKind, BoxParser, DetectState, JxlpIndexState};
-use jxl_refusal_text::Put;
 use jxl_refusals::BoxRefusal;
 use jxl_totals::ContainerParser;
+use replay_text::leading_number;
+use std::fmt;
 
 // `e` is to the end, else a number of bytes.
-fn bytes_left(line: &[u8], at: usize) -> BytesLeft {
-    if replay_text::byte_at(line, at) == b'e' {
-        return BytesLeft::ToEnd;
+fn bytes_left(word: &[u8]) -> BytesLeft {
+    match word {
+        [b'e', ..] => BytesLeft::ToEnd,
+        _ => BytesLeft::Bytes(leading_number(word, 10).0),
     }
-    BytesLeft::Bytes(replay_text::parse_decimal(line, at).value)
 }
 
 // `-` is none, `c` a `jxlc`, `l` a last `jxlp`, else the index of the newest `jxlp`.
-fn boxes(line: &[u8], at: usize) -> JxlpIndexState {
-    match replay_text::byte_at(line, at) {
-        b'-' => JxlpIndexState::Initial,
-        b'c' => JxlpIndexState::SingleJxlc,
-        b'l' => JxlpIndexState::JxlpFinished,
-        _ => JxlpIndexState::Jxlp(
-            (replay_text::parse_decimal(line, at).value % 0x1_0000_0000) as u32,
-        ),
+fn boxes(word: &[u8]) -> JxlpIndexState {
+    match word {
+        [b'-', ..] => JxlpIndexState::Initial,
+        [b'c', ..] => JxlpIndexState::SingleJxlc,
+        [b'l', ..] => JxlpIndexState::JxlpFinished,
+        _ => JxlpIndexState::Jxlp((leading_number(word, 10).0 & 0xffff_ffff) as u32),
     }
 }
 
 // `s` is at the signature, `h` at a box header, `i` at a `jxlp` index, `t` at an inner type, `b` in an `Exif` box, `c` in a bare
-// codestream, `w` refused by index 3 where 2 was expected, any other letter refused by number 2.
-fn state(letter: u8, left: BytesLeft) -> DetectState {
-    match letter {
-        b's' => DetectState::WaitingSignature,
-        b'h' => DetectState::WaitingBoxHeader,
-        b'i' => DetectState::WaitingJxlpIndex(left),
-        b't' => DetectState::WaitingInnerType(left),
-        b'b' => DetectState::InAuxBox {
+// codestream, `w` refused by index 3 where 2 was expected, any other word refused by a reserved type in a `brob`.
+fn state(word: &[u8], left: BytesLeft) -> DetectState {
+    match word {
+        [b's', ..] => DetectState::WaitingSignature,
+        [b'h', ..] => DetectState::WaitingBoxHeader,
+        [b'i', ..] => DetectState::WaitingJxlpIndex(left),
+        [b't', ..] => DetectState::WaitingInnerType(left),
+        [b'b', ..] => DetectState::InAuxBox {
             ty: 0x45786966,
             bytes_left: left,
         },
-        b'c' => DetectState::InCodestream {
+        [b'c', ..] => DetectState::InCodestream {
             kind: BitstreamKind::BareCodestream,
             bytes_left: left,
             pending_no_more_aux_box: true,
         },
-        b'w' => DetectState::Refused {
+        [b'w', ..] => DetectState::Refused {
             kind: BitstreamKind::Container,
             refusal: BoxRefusal::WrongIndex {
                 found: 3,
@@ -59,84 +58,65 @@ fn state(letter: u8, left: BytesLeft) -> DetectState {
     }
 }
 
-// The rules' own record, whose three words stand behind these places.
-fn box_parser(line: &[u8], state_at: usize, left_at: usize, boxes_at: usize) -> BoxParser {
-    let left = bytes_left(line, std::num::wrapping_add_usize(left_at, 1));
-    BoxParser {
-        state: state(
-            replay_text::byte_at(line, std::num::wrapping_add_usize(state_at, 1)),
-            left,
-        ),
-        jxlp: boxes(line, std::num::wrapping_add_usize(boxes_at, 1)),
-    }
-}
-
-// The record whose four words stand behind these places. Its newest header is at half its total.
+// The record that four words tell. Its newest header is at half its total.
 pub fn parser(
-    line: &[u8],
-    state_at: usize,
-    left_at: usize,
-    boxes_at: usize,
-    total_at: usize,
+    state_word: &[u8],
+    left_word: &[u8],
+    boxes_word: &[u8],
+    total_word: &[u8],
 ) -> ContainerParser {
-    let total = replay_text::parse_decimal(line, std::num::wrapping_add_usize(total_at, 1)).value;
+    let (total, _) = leading_number(total_word, 10);
     ContainerParser {
-        boxes: box_parser(line, state_at, left_at, boxes_at),
+        boxes: BoxParser {
+            state: state(state_word, bytes_left(left_word)),
+            jxlp: boxes(boxes_word),
+        },
         total,
         header: total / 2,
     }
 }
 
-// Prints a refusal's text as the library puts it, and the place that it names.
-fn print_refusal(why: BoxRefusal, place: u64) {
-    let mut text = [0u8; 64];
-    io::write_all(1, b": ");
-    if let Put::Written(n) = jxl_refusal_text::put_refusal(&mut text, 0, why) {
-        io::write_all(1, jxl_slices::part(&text, 0, n));
-    }
-    io::write_all(1, b", at ");
-    io::print_decimal(1, place);
-}
-
-// Prints the `jxlc` and `jxlp` boxes so far.
-fn print_boxes(jxlp: JxlpIndexState) {
+// Writes the `jxlc` and `jxlp` boxes so far.
+fn write_boxes<W: fmt::Write>(f: &mut fmt::Formatter<W>, jxlp: JxlpIndexState) -> fmt::Result {
     match jxlp {
-        JxlpIndexState::Initial => io::write_all(1, b" boxes none"),
-        JxlpIndexState::SingleJxlc => io::write_all(1, b" boxes jxlc"),
-        JxlpIndexState::JxlpFinished => io::write_all(1, b" boxes last"),
-        JxlpIndexState::Jxlp(i) => {
-            io::write_all(1, b" boxes jxlp ");
-            io::print_decimal(1, i as u64)
-        }
-    };
-}
-
-// Prints the kind that the record tells on request, its boxes, its total and its newest header, and why it takes no more.
-fn print_record(parser: ContainerParser, place: u64) {
-    io::write_all(1, b" kind ");
-    let kind = [box_lines::letter(parser.kind())];
-    io::write_all(1, &kind);
-    let boxes = parser.boxes;
-    let jxlp = boxes.jxlp;
-    print_boxes(jxlp);
-    io::write_all(1, b" total ");
-    io::print_decimal(1, parser.total);
-    io::write_all(1, b" header ");
-    io::print_decimal(1, parser.header);
-    let state = boxes.state;
-    if let DetectState::Refused {
-        kind: _,
-        refusal: why,
-    } = state
-    {
-        print_refusal(why, place);
+        JxlpIndexState::Initial => write!(f, "none"),
+        JxlpIndexState::SingleJxlc => write!(f, "jxlc"),
+        JxlpIndexState::JxlpFinished => write!(f, "last"),
+        JxlpIndexState::Jxlp(index) => write!(f, "jxlp {index}"),
     }
-    io::write_all(1, b"\n");
 }
 
-// Prints a line: the name of what was done, the answers to it, and the record that it left.
-pub fn print_answer(name: &[u8], text: &[u8], parser: ContainerParser, place: u64) {
-    io::write_all(1, name);
-    io::write_all(1, text);
-    print_record(parser, place);
+// Writes a refusal's text as the library puts it.
+fn write_text<W: fmt::Write>(f: &mut fmt::Formatter<W>, refusal: BoxRefusal) -> fmt::Result {
+    let mut text = [0u8; 64];
+    let Ok(len) = jxl_refusal_text::put_refusal(&mut text, 0, refusal) else {
+        return Err(fmt::Error);
+    };
+    match str::from_utf8(text.get(..len).unwrap_or(b"")) {
+        Ok(words) => f.write_str(words),
+        Err(_) => Err(fmt::Error),
+    }
+}
+
+// A record as it is printed: the kind that it tells on request, its boxes, its total and its newest header; and of one that takes no more
+// the text that says why, and the place that its refusal names.
+#[derive(Clone, Copy)]
+pub struct Record {
+    pub parser: ContainerParser,
+    pub place: u64,
+}
+
+impl fmt::Display for Record {
+    fn fmt<W: fmt::Write>(&self, f: &mut fmt::Formatter<W>) -> fmt::Result {
+        let parser = self.parser;
+        write!(f, "kind {} boxes ", box_lines::letter(parser.kind()))?;
+        write_boxes(f, parser.boxes.jxlp)?;
+        write!(f, " total {} header {}", parser.total, parser.header)?;
+        if let DetectState::Refused { refusal, .. } = parser.boxes.state {
+            write!(f, ": ")?;
+            write_text(f, refusal)?;
+            write!(f, ", at {}", self.place)?;
+        }
+        Ok(())
+    }
 }

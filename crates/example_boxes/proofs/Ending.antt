@@ -1,12 +1,12 @@
--- A step on the input from `at` on consumes no more than is there, and takes one event of those that the input still has: as many as the
--- rules on boxes show of what is there.
+-- A step consumes no more than is there, and takes one event of those that the input still has: as many as the rules on boxes show of what
+-- is there.
 use mathlib.Core.Path.{◌≡◌, refl, sym, ap, ◌∙◌}
 use mathlib.Core.Bool.{Bool, true, false}
 use mathlib.Core.List.{List, [], ◌∷◌}
-use Prim.Native.Nat.{ℕ, zero, suc, ◌+◌, ◌-◌, ◌≤◌}
+use Prim.Native.Nat.{ℕ, zero, suc, ◌+◌, ◌-◌, ◌<◌, ◌≤◌}
 use native.Mathlib.Omega.{arith}
 use lib.ListN.{length, take, drop, length-take, length-drop}
-use lib.Seq.{take_all, drop-drop}
+use lib.Seq.{take_all}
 use Rattle.jxl_record.specs.declared.BoxParser.{BoxParser}
 use Rattle.jxl_events.specs.declared.FileEvent.{FileEvent}
 use Rattle.jxl_grammar.specs.Feeding.{Seen, more}
@@ -15,6 +15,10 @@ use Rattle.jxl_grammar.specs.Laws.{Kept}
 use Rattle.jxl_grammar.specs.Step as Boxes
 use Rattle.jxl_grammar.proofs.Laws.{every_step}
 use Rattle.jxl_grammar.proofs.Taking.{takes, take_is}
+use Rattle.jxl_counts.specs.Told.{told}
+use Rattle.jxl_counts.specs.declared.StepResult.TheVariants as A
+use Rattle.jxl_counts.proofs.Ruled.{by_rule}
+use Rattle.jxl_totals.specs.Naming.{numbered}
 use Rattle.jxl_totals.specs.Step.{Told, shows, wants, refuses, limit, room, visible, beyond, behind, counting, step_of}
 use Rattle.jxl_totals.specs.declared.ContainerParser.{ContainerParser}
 
@@ -35,7 +39,7 @@ step_within p s =
     omega (arith, counted_within (beyond p s) p (length (visible p s)) (Boxes.step_of p.boxes (visible p s)) (every_step p.boxes (visible p s)), length-take (room p) s)
 
 -- the events that an input still has
-abbrev counted : ContainerParser → List ℕ → ℕ
+abbrev pub counted : ContainerParser → List ℕ → ℕ
 counted p s = length (Feeding.take p.boxes p.total (visible p s)).shown
 
 drop_take : (c n : ℕ) (s : List ℕ) → drop c (take n s) ≡ take (n - c) (drop c s)
@@ -66,16 +70,12 @@ one_less p q s e c h = go (beyond p s) (Boxes.step_of p.boxes (visible p s)) ref
     go false (wants r d) x n = absurd (let z : ◌≡◌ {A = ℕ} 0 1 = cc in omega arith)
     go b (refuses w r d) x n = absurd (let z : ◌≡◌ {A = ℕ} 0 1 = cc in omega arith)
 
--- and so of the file from `at` on
-abbrev pub count : ContainerParser → ℕ → List ℕ → ℕ
-count p at f = counted p (drop at f)
+-- and so a step of the code, by what its promise says of it
+module _ (p q : ContainerParser) (s : List ℕ) {e : FileEvent} {c : ℕ} (h : told (A.Shown q c e) ≡ numbered (step_of p s)) where
+  pub fits : c ≤ length s
+  fits = omega (arith, ap consumed_of (by_rule (A.Shown q c e) (step_of p s) h), step_within p s)
 
-module _ (p : ContainerParser) (f : List ℕ) (at : ℕ) (h : at ≤ length f) where
-  far : {t : Told} → t ≡ step_of p (take (length f - at) (drop at f)) → step_of p (drop at f) ≡ t
-  far e = ap (step_of p) (sym (take_all (length f - at) (drop at f) (omega (arith, length-drop at f)))) ∙ sym e
-
-  pub fits : {t : Told} → t ≡ step_of p (take (length f - at) (drop at f)) → at + consumed_of t ≤ length f
-  fits e = omega (arith, ap consumed_of (far e), step_within p (drop at f), length-drop at f)
-
-  pub fewer : {q : ContainerParser} {e : FileEvent} {c : ℕ} → shows e q c ≡ step_of p (take (length f - at) (drop at f)) → count p at f ≡ suc (count q (at + c) f)
-  fewer {q} {e} {c} s = one_less p q (drop at f) e c (far s) ∙ ap (λ (l : List ℕ). suc (counted q l)) (drop-drop c at f)
+  pub fewer : counted q (take (length s - c) (drop c s)) < counted p s
+  fewer = omega (arith,
+      one_less p q s e c (sym (by_rule (A.Shown q c e) (step_of p s) h)),
+      ap (counted q) (take_all (length s - c) (drop c s) (omega (arith, length-drop c s))))

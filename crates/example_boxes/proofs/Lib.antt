@@ -1,1 +1,2 @@
 mod Ending
+mod Lines

@@ -1,122 +1,95 @@
 // Lists the boxes of a small file that comes in two packets and then ends, as a user of the container would.
 #![tactic(auto)]
 
-ghost use Rattle.std.specs.Prelude.{◌≤◌, length};
-
-use jxl_container::{ContainerParser, EndResult, FileEvent, MaybeEvent, StepResult};
+use jxl_container::{ContainerParser, FileEvent, StepResult};
 use jxl_lines::{Line, StopWord};
-use jxl_listing::Put;
+use std::io;
+use std::io::Write;
 
-// The descriptor of standard output.
-const STDOUT: i32 = 1;
-
-#[derive(Clone, Copy)]
-struct Fed {
-    parser: ContainerParser,
-    consumed: usize,
-}
-
-// Prints a line of the listing.
-fn print_line(line: Line) {
-    let mut out = [0u8; 56];
-    if let Put::Written(n) = jxl_listing::put_line(&mut out, 0, line) {
-        io::write_all(STDOUT, &out[..n]);
+// Prints a line of the listing, which has at most 56 bytes.
+#[tactic(auto, using(jxl_lines::proofs::Putting::put_within, crate::proofs::Lines::written))]
+fn print_line(rt: &impl Print, line: Line) -> io::Result<()> {
+    let mut text = [0; 56];
+    if let Ok(len) = jxl_listing::put_line(&mut text, 0, line) {
+        io::writer(rt).write_all(&text[..len])?;
     }
+    Ok(())
 }
 
 // Prints the event's line, its payload at its place in the file.
-fn print(event: FileEvent) {
-    let placed = event.in_file();
-    let shown = placed.event;
-    print_line(Line::Shown(shown));
+fn print(rt: &impl Print, event: FileEvent) -> io::Result<()> {
+    print_line(rt, Line::Shown(event.in_file().event))
 }
 
 // Prints the last line: how the file ended, and the bytes consumed.
-fn print_stop(stop: StopWord, total: u64) {
-    print_line(Line::Stopped {
-        stop,
-        consumed: total as usize,
-    });
+fn print_stop(rt: &impl Print, stop: StopWord, total: u64) -> io::Result<()> {
+    let consumed = total as usize;
+    print_line(rt, Line::Stopped { stop, consumed })
 }
 
-// Prints all events of `input`: the bytes left unread, and the packet behind them.
-fn feed(parser: ContainerParser, input: &[u8]) -> Fed
-    ensures { result.consumed ≤ length input.now }
-{
-    let mut p = parser;
-    let mut at = 0;
+// Prints all events of `input`: the bytes left unread, and the packet behind them. Answers the record that the last step leaves.
+#[tactic(auto, using(crate::proofs::Ending::fits, crate::proofs::Ending::fewer))]
+fn feed(rt: &impl Print, start: ContainerParser, input: &[u8]) -> io::Result<ContainerParser> {
+    let mut parser = start;
+    let mut unread = input;
     loop {
-        match jxl_container::step(p, &input[at..]) {
+        match jxl_container::step(parser, unread) {
             StepResult::Shown {
-                event,
                 next,
                 consumed,
+                event,
             } => {
-                print(event);
-                p = next;
-                at += consumed;
+                print(rt, event)?;
+                parser = next;
+                unread = &unread[consumed..];
             }
-            StepResult::Want { next, consumed } => {
-                return Fed {
-                    parser: next,
-                    consumed: at + consumed,
-                };
-            }
-            StepResult::Refused { next, consumed, .. } => {
-                return Fed {
-                    parser: next,
-                    consumed: at + consumed,
-                };
-            }
-            StepResult::Closed { next, consumed } => {
-                return Fed {
-                    parser: next,
-                    consumed: at + consumed,
-                };
-            }
+            StepResult::Want { next, .. }
+            | StepResult::Refused { next, .. }
+            | StepResult::Closed { next, .. } => return Ok(next),
         }
     }
 }
 
 // Ends the file: prints the event still owed, if any, and whether the file is whole.
-fn end(parser: ContainerParser, unread: &[u8]) {
-    match jxl_container::end(parser, unread) {
-        EndResult::Done { next, owed } => {
-            if let MaybeEvent::Some(event) = owed {
-                print(event);
+fn end(rt: &impl Print, parser: ContainerParser, unread: &[u8]) -> io::Result<()> {
+    let ended = jxl_container::end(parser, unread);
+    match ended.answer {
+        Ok(owed) => {
+            if let Some(event) = owed {
+                print(rt, event)?;
             }
-            print_stop(StopWord::Done, next.total);
+            print_stop(rt, StopWord::Done, ended.next.total)
         }
-        EndResult::Refused { refusal, .. } => {
-            let rule = refusal.rule;
-            print_stop(StopWord::refused(rule), refusal.total);
-        }
+        Err(refusal) => print_stop(rt, StopWord::refused(refusal.rule), refusal.total),
     }
+}
+
+// The bytes of a file that the parser, which was new at its first byte, has not consumed.
+fn unread(file: &[u8], parser: ContainerParser) -> &[u8] {
+    file.get(parser.total as usize..).unwrap_or(b"")
 }
 
 // Lists a container that comes in two packets, the first of `cut` bytes.
-fn list(file: &[u8], cut: usize) {
+fn list(rt: &impl Print, file: &[u8], cut: usize) -> io::Result<()> {
     if !jxl_file_kind::is_container(file) {
-        return;
+        return Ok(());
     }
-    if cut <= file.len() {
-        let first = feed(ContainerParser::new(), &file[..cut]);
-        let unread = first.consumed;
-        let rest = &file[unread..];
-        let last = feed(first.parser, rest);
-        let unread = last.consumed;
-        end(last.parser, &rest[unread..]);
-    }
+    let first = file.get(..cut).unwrap_or(file);
+    let parser = feed(rt, ContainerParser::new(), first)?;
+    let parser = feed(rt, parser, unread(file, parser))?;
+    end(rt, parser, unread(file, parser))
 }
 
-fn main() {
+fn main(rt: HostRuntime) -> io::Result<()> {
     list(
+        &rt,
         b"\x00\x00\x00\x0cJXL \x0d\x0a\x87\x0a\x00\x00\x00\x14ftypjxl \x00\x00\x00\x00jxl \x00\x00\x00\x0bjxlc\xff\x0a\xfa\x00\x00\x00\x10Exif\x00\x00\x00\x00MM\x00*",
         30,
-    );
+    )?;
     // an `Exif` box that lacks its last four bytes
     list(
+        &rt,
         b"\x00\x00\x00\x0cJXL \x0d\x0a\x87\x0a\x00\x00\x00\x10Exif\x00\x00\x00\x00",
         16,
-    );
+    )
 }

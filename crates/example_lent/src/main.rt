@@ -1,54 +1,39 @@
 // Feeds and ends a parser that lies in a local: it is lent by `&mut`, and each call changes it in place.
 #![tactic(auto)]
 
-use jxl_container::{ContainerParser, MaybeEvent};
+use jxl_container::ContainerParser;
 use jxl_feed::Fed;
-use jxl_feed_end::Ended;
-
-// The descriptor of standard output.
-const STDOUT: i32 = 1;
-
-// Prints a word, and a number.
-fn say(word: &[u8], n: u64) {
-    io::write_all(STDOUT, word);
-    io::print_decimal(STDOUT, n);
-    io::write_all(STDOUT, b"\n");
-}
+use std::io;
 
 // Prints what a step answers, and how many bytes it consumed.
-fn print(fed: Fed) {
+fn print(rt: &impl Print, fed: Fed) -> io::Result<()> {
     match fed {
-        Fed::Shown { event: _, consumed } => say(b"event ", consumed as u64),
-        Fed::Want { consumed } => say(b"want ", consumed as u64),
-        Fed::Refused {
-            refusal: _,
-            consumed,
-        } => say(b"refused ", consumed as u64),
-        Fed::Closed { consumed } => say(b"closed ", consumed as u64),
+        Fed::Shown { consumed, .. } => println!(rt; "event {consumed}"),
+        Fed::Want { consumed } => println!(rt; "want {consumed}"),
+        Fed::Refused { consumed, .. } => println!(rt; "refused {consumed}"),
+        Fed::Closed { consumed } => println!(rt; "closed {consumed}"),
     }
 }
 
-// Prints what the end call answers: how many events are still owed, or the total where it refuses.
-fn print_end(ended: Ended) {
-    match ended {
-        Ended::Done { owed } => match owed {
-            MaybeEvent::Some(_) => say(b"done, owed ", 1),
-            MaybeEvent::None => say(b"done, owed ", 0),
-        },
-        Ended::Refused { refusal } => say(b"refused at ", refusal.total),
-    }
-}
-
-// One step on a packet, and the end of the file, with these bytes of it unread.
-fn step_and_end(packet: &[u8], unread: &[u8]) -> Ended {
+// One step on a packet, and the end of the file, with these bytes of it unread. Prints what both answer: of the end how many events are
+// still owed, or the total where it refuses.
+fn step_and_end(rt: &impl Print, packet: &[u8], unread: &[u8]) -> io::Result<()> {
     let mut parser = ContainerParser::new();
-    print(jxl_feed::feed_bytes(&mut parser, packet));
-    jxl_feed_end::end_bytes(&mut parser, unread)
+    print(rt, jxl_feed::feed_bytes(&mut parser, packet))?;
+    match jxl_feed_end::end_bytes(&mut parser, unread) {
+        Ok(Some(_)) => println!(rt; "done, owed 1"),
+        Ok(None) => println!(rt; "done, owed 0"),
+        Err(refusal) => println!(rt; "refused at {}", refusal.total),
+    }
 }
 
-fn main() {
+fn main(rt: HostRuntime) -> io::Result<()> {
     // a container's signature alone
-    print_end(step_and_end(b"\x00\x00\x00\x0cJXL \x0d\x0a\x87\x0a", b""));
+    step_and_end(&rt, b"\x00\x00\x00\x0cJXL \x0d\x0a\x87\x0a", b"")?;
     // the same, and a part of a box header
-    print_end(step_and_end(b"\x00\x00\x00\x0cJXL \x0d\x0a\x87\x0a\x00\x00", b"\x00\x00"));
+    step_and_end(
+        &rt,
+        b"\x00\x00\x00\x0cJXL \x0d\x0a\x87\x0a\x00\x00",
+        b"\x00\x00",
+    )
 }

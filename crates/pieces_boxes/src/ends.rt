@@ -1,87 +1,99 @@
 // Pieces of the end: what the end call comes to behind a feed, and what the record that it leaves answers then.
 use box_answers::Feed;
-use box_ends::Ended;
-use jxl_totals::ContainerParser;
+use box_records::Record;
+use jxl_container::{ContainerParser, EndResult};
+use std::io;
 
-// The word behind the answer of an end that was not refused.
-fn done(out: &mut [u8], ended: Ended) -> usize {
-    if ended.done {
-        replay_text::put_bytes(out, ended.to, b" done")
-    } else {
-        ended.to
-    }
-}
-
-// Prints what an end call answered, and the record that it left.
-fn print_ended(name: &[u8], out: &mut [u8], ended: Ended) {
-    let to = done(out, ended);
-    box_records::print_answer(
-        name,
-        jxl_slices::part(out, 0, to),
-        ended.parser,
-        ended.place,
-    );
+// Prints the answers of a feed, the last of which is that of its end, and the record that the end left.
+fn print_ended(rt: &impl Print, name: &str, feed: &Feed, ended: EndResult) -> io::Result<()> {
+    let (done, place) = match ended.answer {
+        Ok(_) => (" done", ended.next.total),
+        Err(refusal) => ("", refusal.place),
+    };
+    let record = Record {
+        parser: ended.next,
+        place,
+    };
+    println!(rt; "  {name}: {}{done} {record}", feed.answer)
 }
 
 // Ends the feed with the bytes of the file that it left unread, and answers the record that is left.
-fn end(feed: Feed, file: &[u8]) -> ContainerParser {
-    let mut out = [0u8; 128];
-    let unread = jxl_slices::part(file, feed.consumed, file.len());
-    let ended = box_ends::end(&mut out, 0, feed, unread);
-    print_ended(b"  end: ", &mut out, ended);
-    ended.parser
+fn end(rt: &impl Print, fed: Feed, file: &[u8]) -> io::Result<ContainerParser> {
+    let mut feed = fed;
+    feed.answer.clear();
+    let unread = feed.unread(file);
+    let ended = box_ends::end(&mut feed, unread)?;
+    print_ended(rt, "end", &feed, ended)?;
+    Ok(ended.next)
 }
 
 // What a record that was ended answers to a feed of a file that a new parser would take, to one of nothing, and to an end call with that
 // file unread.
-fn then(parser: ContainerParser) {
-    let mut out = [0u8; 128];
-    let start = box_answers::start(parser);
-    let fed = box_answers::packet(&mut out, b"\xff\x0a", 2, start);
-    let nothing = box_answers::packet(&mut out, b"\xff\x0a", 0, fed);
-    let ended = box_ends::end(&mut out, nothing.to, nothing, b"\xff\x0a");
-    print_ended(b"  then: ", &mut out, ended);
-}
-
-// Prints what a feed answered, and the record that it left.
-fn print_feed(name: &[u8], out: &[u8], feed: Feed) {
-    box_records::print_answer(
-        name,
-        jxl_slices::part(out, 0, feed.to),
-        feed.parser,
-        feed.place,
-    );
+fn then(rt: &(impl Print + AllocGlobal), parser: ContainerParser) -> io::Result<()> {
+    let file = b"\xff\x0a";
+    let mut feed = Feed::new(rt.alloc(), parser);
+    feed.packet(file, 2)?;
+    feed.packet(file, 0)?;
+    let ended = box_ends::end(&mut feed, file)?;
+    print_ended(rt, "then", &feed, ended)
 }
 
 // The file fed in two packets, the first of `cut` bytes.
-fn in_two(parser: ContainerParser, file: &[u8], cut: usize) -> Feed {
-    let mut out = [0u8; 256];
-    let first = box_answers::packet(&mut out, file, cut, box_answers::start(parser));
-    let second = box_answers::packet(&mut out, file, file.len(), first);
-    print_feed(b"  in two: ", &out, second);
-    second
+fn in_two(
+    rt: &(impl Print + AllocGlobal),
+    parser: ContainerParser,
+    file: &[u8],
+    cut: usize,
+) -> io::Result<Feed> {
+    let mut feed = Feed::new(rt.alloc(), parser);
+    feed.packet(file, cut)?;
+    feed.packet(file, file.len())?;
+    crate::print_feed(rt, "in two", &feed)?;
+    Ok(feed)
 }
 
 // One step on the file: where there are more events in it, they are not taken.
-fn one_step(parser: ContainerParser, file: &[u8]) -> Feed {
-    let mut out = [0u8; 128];
-    let feed = box_answers::turn(&mut out, file, file.len(), box_answers::start(parser));
-    print_feed(b"  one step: ", &out, feed);
-    feed
+fn one_step(
+    rt: &(impl Print + AllocGlobal),
+    parser: ContainerParser,
+    file: &[u8],
+) -> io::Result<Feed> {
+    let mut feed = Feed::new(rt.alloc(), parser);
+    feed.turn(file, file.len())?;
+    crate::print_feed(rt, "one step", &feed)?;
+    Ok(feed)
 }
 
 // A file fed whole and ended, and fed in two packets and ended.
-pub fn piece(parser: ContainerParser, file: &[u8], cut: usize) {
-    then(end(crate::fed(b"  whole: ", parser, file), file));
-    end(in_two(parser, file, cut), file);
+pub fn piece(
+    rt: &(impl Print + AllocGlobal),
+    parser: ContainerParser,
+    file: &[u8],
+    cut: usize,
+) -> io::Result<()> {
+    let whole = crate::fed(rt, "whole", parser, file)?;
+    then(rt, end(rt, whole, file)?)?;
+    let parted = in_two(rt, parser, file, cut)?;
+    end(rt, parted, file)?;
+    Ok(())
 }
 
 // A file given to one step, and ended with the rest of it unread.
-pub fn early(parser: ContainerParser, file: &[u8]) {
-    then(end(one_step(parser, file), file));
+pub fn early(
+    rt: &(impl Print + AllocGlobal),
+    parser: ContainerParser,
+    file: &[u8],
+) -> io::Result<()> {
+    let feed = one_step(rt, parser, file)?;
+    then(rt, end(rt, feed, file)?)
 }
 
 // A record given nothing, and ended with the bytes unread.
-pub fn at_once(parser: ContainerParser, unread: &[u8]) {
-    then(end(crate::fed(b"  nothing: ", parser, b""), unread));
+pub fn at_once(
+    rt: &(impl Print + AllocGlobal),
+    parser: ContainerParser,
+    unread: &[u8],
+) -> io::Result<()> {
+    let feed = crate::fed(rt, "nothing", parser, b"")?;
+    then(rt, end(rt, feed, unread)?)
 }

@@ -2,107 +2,37 @@
 // outside the domain on which the Rust is compared.
 #![tactic(auto)]
 
-use replay_text::{byte_at, line_end};
+use field_lines::Buffer;
+use replay_text::{leading_number, lines, read_input, skip};
+use std::alloc::{AllocError, Global};
+use std::io;
+use std::io::Write;
 
-// The descriptor of standard output.
-const STDOUT: i32 = 1;
+// The bytes of a list that are read, at most.
+const INPUT_MOST: u64 = 4096;
 
-// Where the line of the buffer starts and ends, and the position.
-#[derive(Clone, Copy)]
-struct Place {
-    from: usize,
-    to: usize,
-    at: usize,
+// Runs one line, and gives what is written behind it: of a call, whose line ends in `= `, the answer. `n` makes a buffer, `@` sets the
+// position, and any other line is only written.
+fn run(alloc: Global, buffer: &mut Buffer, line: &[u8]) -> Result<String, AllocError> {
+    match line {
+        [.., b'=', _] => return buffer.call(alloc, line),
+        [b'n', ..] => *buffer = Buffer::from_line(alloc, line)?,
+        [b'@', ..] => buffer.at = leading_number(skip(line, 2), 10).0 as usize,
+        _ => {}
+    }
+    Ok(String::new(alloc))
 }
 
-// Writes a line, and behind a call its answer.
-fn tell(line: &[u8], answer: &[u8]) {
-    io::write_all(STDOUT, line);
-    io::write_all(STDOUT, answer);
-    io::write_all(STDOUT, b"\n");
-}
-
-// Runs the call of one line, and answers the position after it.
-fn call(buffer: &[u8], line: &[u8], at: usize) -> usize {
-    let mut out = [0u8; 64];
-    let put = field_lines::run(buffer, at, line, &mut out);
-    let n = put.len;
-    if n <= 64 {
-        tell(line, &out[..n]);
+fn main(rt: HostRuntime) -> io::Result<()> {
+    let alloc = rt.alloc();
+    let text = read_input(&rt, INPUT_MOST)?;
+    let mut out = io::writer(&rt);
+    let mut buffer = Buffer::empty(alloc);
+    for line in lines(&text) {
+        let answer = run(alloc, &mut buffer, line)?;
+        out.write_all(line)?;
+        out.write_all(answer.as_bytes())?;
+        out.write_all(b"\n")?;
     }
-    put.at
-}
-
-// A line that is no call: `n` makes a buffer, `@` sets the position, and any other is only written.
-fn other(line: &[u8], at: usize, end: usize, p: Place) -> Place {
-    tell(line, b"");
-    let op = byte_at(line, 0);
-    if op == b'n' {
-        return Place {
-            from: at,
-            to: end,
-            at: 0,
-        };
-    }
-    if op == b'@' {
-        let n = replay_text::parse_decimal(line, 2);
-        return Place {
-            from: p.from,
-            to: p.to,
-            at: n.value as usize,
-        };
-    }
-    p
-}
-
-fn is_call(line: &[u8]) -> bool {
-    if line.len() < 2 {
-        return false;
-    }
-    byte_at(line, line.len() - 2) == b'='
-}
-
-// One line of the text.
-fn one(text: &[u8], at: usize, end: usize, p: Place) -> Place {
-    let from = p.from;
-    let to = p.to;
-    if end < at {
-        return p;
-    }
-    if text.len() < end {
-        return p;
-    }
-    let line = &text[at..end];
-    if is_call(line) {
-        if from <= to {
-            if to <= text.len() {
-                return Place {
-                    from,
-                    to,
-                    at: call(&text[from..to], line, p.at),
-                };
-            }
-        }
-    }
-    other(line, at, end, p)
-}
-
-fn run(text: &[u8]) {
-    let mut p = Place {
-        from: 0,
-        to: 0,
-        at: 0,
-    };
-    let mut at = 0;
-    while at < text.len() {
-        let end = line_end(text, at);
-        p = one(text, at, end, p);
-        at = end + 1;
-    }
-}
-
-fn main() {
-    let mut buf = io::buffer();
-    let n = io::read_full(0, &mut buf);
-    run(&buf[..n]);
+    Ok(())
 }

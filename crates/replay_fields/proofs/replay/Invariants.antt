@@ -1,6 +1,0 @@
--- Each turn passes a line.
-use Rattle.std.proofs.Common.{length, ◌-◌}
-use Rattle.replay_fields.proofs.replay.Given as goal
-
-abbrev pub decreases-loop-at : goal.decreases-loop-at
-decreases-loop-at l = length l.text - l.at
