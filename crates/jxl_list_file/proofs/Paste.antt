@@ -1,7 +1,7 @@
 -- Lines counted, and put one behind the other into a buffer.
 use mathlib.Core.Path.{◌≡◌, sym, ap, ◌∙◌}
 use mathlib.Core.List.{List, ◌++◌}
-use Prim.Native.Nat.{ℕ, ◌+◌, ◌-◌, ◌≤◌, min}
+use Prim.Native.Nat.{ℕ, ◌+◌, ◌-◌, ◌≤◌}
 use native.Mathlib.Nat.{zero-add}
 use native.Mathlib.Omega.{arith}
 use lib.ListN.{length, take, drop, length-append, length-drop}
@@ -68,13 +68,3 @@ module _ (all buffer out line after : List ℕ) (w : ℕ) (room : length all ≤
     ap (λ (m : ℕ). drop m all) n ∙ further all buffer line after w e h,
     p ∙ ap (λ (l : List ℕ). pasted l w line) o ∙ paste_line all buffer line after w e h ∙ ap (λ (m : ℕ). take m all ++ drop m buffer) (sym n),
   )
-
--- a sum that saturates, one line further on
-pub one_line : (all rest line after total : ℕ) → rest ≡ line + after → rest ≤ all → total ≡ min (all - rest) 18446744073709551615
-    → (after ≤ all) × (min (total + line) 18446744073709551615 ≡ min (all - after) 18446744073709551615)
-one_line all rest line after total e h t = (omega arith, omega arith)
-
--- and at the end
-pub last_line : (all rest line total : ℕ) → rest ≡ line → rest ≤ all → total ≡ min (all - rest) 18446744073709551615
-    → min (total + line) 18446744073709551615 ≡ min all 18446744073709551615
-last_line all rest line total e h t = omega arith

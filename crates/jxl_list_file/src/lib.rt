@@ -35,21 +35,13 @@ fn next(parser: ContainerParser, file: &[u8]) -> AfterStep
     ensures { result ≡ next_of parser (drop parser.total file.now) }
 {
     match jxl_container::step(parser, behind(parser, file)) {
-        StepResult::Shown {
-            next,
-            consumed: _,
-            event,
-        } => AfterStep {
+        StepResult::Shown { next, event, .. } => AfterStep {
             parser: next,
             answer: Ok(event.in_file().event),
         },
-        StepResult::Want { next, consumed: _ } => at_end(next, file),
-        StepResult::Refused {
-            next,
-            consumed: _,
-            refusal: _,
-        } => at_end(next, file),
-        StepResult::Closed { next, consumed: _ } => at_end(next, file),
+        StepResult::Want { next, .. }
+        | StepResult::Refused { next, .. }
+        | StepResult::Closed { next, .. } => at_end(next, file),
     }
 }
 

@@ -37,7 +37,8 @@ fn stopped(t: AfterTurn, next: ContainerParser, consumed: usize, stop: StopWord)
     }
 }
 
-// The work of a turn, step by step. `t` is what it leaves if the next line has no room.
+// The work of a turn, step by step. `t` is what it leaves if the next line has no room. Not a `for` over the steps: such a turn ends before the
+// event, with the record and the joiner of then.
 pub fn turn_from(parser: ContainerParser, joiner: Joiner, input: &[u8], out: &mut [u8]) -> AfterTurn
     ensures { Told result out.new out.old (turn_of input.now (length out.old) parser joiner.held) }
 {
