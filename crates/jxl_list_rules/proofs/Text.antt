@@ -39,7 +39,6 @@ use Rattle.jxl_lines.specs.Pasting.{pasted}
 use Rattle.jxl_lines.specs.Putting.{leaves}
 use Rattle.jxl_lines.specs.declared.Line.{Line}
 use Rattle.jxl_lines.specs.declared.Line.TheVariants as L
-use Rattle.jxl_lines.specs.declared.Put.TheVariants.{Written, NoRoom}
 use Rattle.jxl_lines.specs.declared.StopWord.{StopWord}
 use Rattle.jxl_lines.specs.declared.StopWord.TheVariants as S
 use Rattle.jxl_list_rules.specs.declared.AfterStep.{AfterStep}
@@ -268,10 +267,10 @@ text_of_file f =
     ∙ ap listing_text (ends_as_listed f (drop seen.consumed f) seen refl (settles refl (takes fresh 0 f).1) ∙ ap ended_listing (whole_file f))
 
 -- a listing that fits, and one that does not
-pub list_fits : (d w : List ℕ) → length w ≤ length d → list_of d w ≡ leaves (Written (length w)) (pasted d 0 w)
+pub list_fits : (d w : List ℕ) → length w ≤ length d → list_of d w ≡ leaves (Ok (length w)) (pasted d 0 w)
 unfolding list_of
 list_fits d w h = rw (le-leb (length w) (length d) h)
 
-pub list_refused : (d w : List ℕ) → length d < length w → list_of d w ≡ leaves (NoRoom (min (length w) 18446744073709551615)) d
+pub list_refused : (d w : List ℕ) → length d < length w → list_of d w ≡ leaves (Err (record { needed = min (length w) 18446744073709551615 })) d
 unfolding list_of
 list_refused d w h = rw (lt-leb (length w) (length d) h)

@@ -19,7 +19,7 @@ fn put_held(out: &mut [u8], at: usize, held: Option<FileEvent>) -> Put
     ensures { leaves result out.new ≡ put_of out.old at (lines_of (handed held)) }
 {
     match held {
-        None => Put::Written(at),
+        None => Ok(at),
         Some(whole) => jxl_listing::put_line(out, at, Line::Shown(whole.event)),
     }
 }
@@ -57,18 +57,16 @@ pub fn turn_from(parser: ContainerParser, joiner: Joiner, input: &[u8], out: &mu
                 event,
             } => {
                 let added = t.joiner.add(event);
-                match put_held(out, t.written, added.out) {
-                    Put::Written(written) => {
-                        t = AfterTurn {
-                            parser: next,
-                            joiner: added.next,
-                            consumed: t.consumed + consumed,
-                            written,
-                            stop: None,
-                        };
-                    }
-                    Put::NoRoom(_) => return t,
-                }
+                let Ok(written) = put_held(out, t.written, added.out) else {
+                    return t;
+                };
+                t = AfterTurn {
+                    parser: next,
+                    joiner: added.next,
+                    consumed: t.consumed + consumed,
+                    written,
+                    stop: None,
+                };
             }
             StepResult::Want { next, consumed } => {
                 return stopped(t, next, consumed, StopWord::Want);
