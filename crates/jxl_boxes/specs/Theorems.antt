@@ -8,3 +8,7 @@ use Rattle.jxl_payloads.specs.Told.{told}
 
 abbrev pub OneStep : Type 0
 OneStep = (p : BoxParser) (s : List ℕ) → OneAnswer (λ r. told r ≡ numbered (step_of p s))
+
+-- the record that a step starts from is the one that it was given
+abbrev pub OneSame : Type 0
+OneSame = (p : BoxParser) → OneAnswer (λ r. r ≡ p)

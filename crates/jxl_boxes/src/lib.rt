@@ -157,12 +157,11 @@ fn state_step(p: BoxParser, s: &[u8]) -> BoxResult
 pub fn step(parser: BoxParser, input: &[u8]) -> BoxResult
     ensures { told result ≡ numbered (Spec.step_of parser input.now) }
 {
-    let p = jxl_anew::same(parser);
     if input.len() == 0 {
-        return empty_step(p);
+        return empty_step(parser);
     }
-    if is_impossible(p) {
-        return refuse(BoxRefusal::ImpossibleRecord, p, 0);
+    if is_impossible(parser) {
+        return refuse(BoxRefusal::ImpossibleRecord, parser, 0);
     }
-    state_step(p, input)
+    state_step(parser, input)
 }

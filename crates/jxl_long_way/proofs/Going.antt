@@ -82,16 +82,16 @@ pub record Going (s buffer : List ℕ) (all : Turned) (out : List ℕ) (r : Afte
 abbrev pub leaving : ContainerParser → Joiner → ℕ → ℕ → Option StopWord → AfterTurn
 leaving p j k w e = record { parser = p; joiner = j; consumed = k; written = w; stop = e }
 
-pub going_first : (s buffer : List ℕ) (p : ContainerParser) (j i : Joiner) → i ≡ j
-    → Going s buffer (turn_of s (length buffer) p j.held) buffer (leaving p i 0 0 None)
+pub going_first : (s buffer : List ℕ) (p : ContainerParser) (j : Joiner)
+    → Going s buffer (turn_of s (length buffer) p j.held) buffer (leaving p j 0 0 None)
 unfolding turn_of
-going_first s buffer p j i so =
+going_first s buffer p j =
     record {
       inside = omega arith;
       room = omega arith;
       same = refl;
       untouched = refl;
-      told = let all : length buffer ≡ length buffer - 0 = omega arith in λ x. turn_from s (all x) p (sym so x).held 0;
+      told = let all : length buffer ≡ length buffer - 0 = omega arith in λ x. turn_from s (all x) p j.held 0;
       goes_on_lem = refl;
     }
 

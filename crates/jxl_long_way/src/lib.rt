@@ -7,7 +7,7 @@ ghost use Rattle.jxl_list_rules.specs.Listed.{lines_of};
 ghost use Rattle.jxl_list_rules.specs.Turned.{Told, turn_of};
 ghost use Rattle.jxl_joiner.specs.Joiner.{handed};
 
-use jxl_container::{ContainerParser, FileEvent, ParseEvent, StepResult};
+use jxl_container::{ContainerParser, FileEvent, StepResult};
 use jxl_joiner::Joiner;
 use jxl_lines::{Line, StopWord};
 use jxl_list_rules::AfterTurn;
@@ -44,7 +44,7 @@ pub fn turn_from(parser: ContainerParser, joiner: Joiner, input: &[u8], out: &mu
 {
     let mut t = AfterTurn {
         parser,
-        joiner: anew(joiner),
+        joiner,
         consumed: 0,
         written: 0,
         stop: None,
@@ -80,39 +80,5 @@ pub fn turn_from(parser: ContainerParser, joiner: Joiner, input: &[u8], out: &mu
                 return stopped(t, next, consumed, StopWord::Closed);
             }
         }
-    }
-}
-
-// The event, made anew; only one with a payload is worth it.
-fn same_event(event: FileEvent) -> FileEvent
-    ensures { result ≡ event }
-{
-    let shown = event.event;
-    let total = event.total;
-    match shown {
-        ParseEvent::Codestream { at, len } => FileEvent {
-            event: ParseEvent::Codestream { at, len },
-            total,
-        },
-        ParseEvent::AuxBoxData { ty, at, len } => FileEvent {
-            event: ParseEvent::AuxBoxData { ty, at, len },
-            total,
-        },
-        _ => FileEvent {
-            event: shown,
-            total,
-        },
-    }
-}
-
-// The joiner, made anew field by field: a copy takes the unused bytes along, which costs about as much as a turn on one payload.
-fn anew(joiner: Joiner) -> Joiner
-    ensures { result ≡ joiner }
-{
-    match joiner.held {
-        None => Joiner { held: None },
-        Some(event) => Joiner {
-            held: Some(same_event(event)),
-        },
     }
 }

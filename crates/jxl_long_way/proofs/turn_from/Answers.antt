@@ -4,7 +4,7 @@ use Rattle.jxl_long_way.proofs.Going.{going_first, going_fits, going_fewer, goin
 use Rattle.jxl_long_way.proofs.turn_from.Goals as goal
 
 pub loop-next-init : goal.loop-next-init
-loop-next-init c = going_first c.args.input.now c.args.out.now c.args.parser c.args.joiner c.anew.result c.anew.ensures
+loop-next-init c = going_first c.args.input.now c.args.out.now c.args.parser c.args.joiner
 
 pub overflow_add-t : goal.overflow_add-t
 overflow_add-t c = omega (arith, going_fits _ _ _ _ _ c.loop-next.invariant (A.Shown c.in-Shown.next c.in-Shown.consumed c.in-Shown.event) c.in-Shown.ensures)
