@@ -33,7 +33,7 @@ fn flag_and_u32(bytes: &[u8], at: usize, d: [U32Specifier; 4]) -> Fields
     }
 }
 
-// The U32 with its position. What it calls has plain parameters, so its proof knows nothing of a reader.
+// The U32 with its position: the reader is behind it, refused or not.
 fn u32_behind_flag(bytes: &[u8], at: usize, d: [U32Specifier; 4]) -> Read<u32>
     ensures { told result ≡ F.u32 d bytes.now (after_flag bytes.now at) }
 {
