@@ -39,7 +39,7 @@ pub struct ContainerBoxHeader {
     pub box_size: BytesLeft,
 }
 
-// Result of reading a box header.
+// Result of reading a box header. Not a Result: it has three cases, as the Rust's has them.
 #[derive(Clone, Copy, Debug, PartialEq, Eq)]
 pub enum HeaderParseResult {
     Done {
