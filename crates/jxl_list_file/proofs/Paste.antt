@@ -49,13 +49,3 @@ module _ (all buffer out line after : List ℕ) (w : ℕ) (room : length all ≤
     ap (λ (m : ℕ). drop m all) n ∙ further all buffer line after w e h,
     p ∙ ap (λ (l : List ℕ). pasted l w line) o ∙ paste_line all buffer line after w e h ∙ ap (λ (m : ℕ). take m all ++ drop m buffer) (sym n),
   )
-
--- a sum that saturates, one line further on
-pub one_line : (all rest line after total : ℕ) → rest ≡ line + after → rest ≤ all → total ≡ min (all - rest) 18446744073709551615
-    → (after ≤ all) × (min (total + line) 18446744073709551615 ≡ min (all - after) 18446744073709551615)
-one_line all rest line after total e h t = (omega arith, omega arith)
-
--- and at the end
-pub last_line : (all rest line total : ℕ) → rest ≡ line → rest ≤ all → total ≡ min (all - rest) 18446744073709551615
-    → min (total + line) 18446744073709551615 ≡ min all 18446744073709551615
-last_line all rest line total e h t = omega arith
