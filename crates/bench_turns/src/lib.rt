@@ -6,7 +6,6 @@ ghost use Rattle.std.specs.Prelude.{◌≤◌};
 use bench_parts::Packets;
 use jxl_container::ContainerParser;
 use jxl_joiner::Joiner;
-use jxl_list_turn::TurnEnd;
 
 // Where the next lines go: behind those written, while there is room for a line; from then on to the front.
 fn place(written: usize, len: usize) -> usize
@@ -34,7 +33,7 @@ pub extern "C" fn bench_turns(file: &[u8], packet: usize, out: &mut [u8], most: 
         written = written.wrapping_add(after.written);
         parser = after.parser;
         joiner = after.joiner;
-        if !matches!(after.end, TurnEnd::Full) && !packets.has_next() {
+        if after.stop.is_some() && !packets.has_next() {
             break;
         }
     }

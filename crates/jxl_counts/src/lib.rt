@@ -13,7 +13,8 @@ use jxl_marks::{is_closed, place};
 use jxl_refusals::BoxRefusal;
 use jxl_totals::{ContainerParser, FileRefusal};
 
-// A step's answer. The next record and the bytes consumed come first in every case, so that the compiler copies no padding.
+// A step's answer. Not a Result: to want more is neither. The next record and the bytes consumed come first in every case, so that the
+// compiler copies no padding.
 #[derive(Clone, Copy)]
 pub enum StepResult {
     Shown {

@@ -1,2 +1,1 @@
-mod Taking
 pub mod Unique

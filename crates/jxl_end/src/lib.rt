@@ -72,7 +72,7 @@ fn end_in(state: DetectState, p: ContainerParser, unread: &[u8]) -> EndResult
     ensures { told_end result ≡ Spec.numbered_end (Spec.end_in state p unread.now) }
 {
     match state {
-        DetectState::Refused { kind: _, refusal } => again(refusal, p),
+        DetectState::Refused { refusal, .. } => again(refusal, p),
         _ => closing(p, close_of(p.boxes, unread)),
     }
 }
@@ -82,7 +82,5 @@ fn end_in(state: DetectState, p: ContainerParser, unread: &[u8]) -> EndResult
 pub fn end(parser: ContainerParser, unread: &[u8]) -> EndResult
     ensures { told_end result ≡ Spec.numbered_end (Spec.end_of parser unread.now) }
 {
-    let boxes = parser.boxes;
-    let state = boxes.state;
-    end_in(state, parser, unread)
+    end_in(parser.boxes.state, parser, unread)
 }

@@ -1,4 +1,2 @@
-mod Bare
-pub mod Parts
 pub mod Shifted
 pub mod Unique

@@ -22,7 +22,7 @@ ending_at total (E.AuxBoxStart t b e) = E.AuxBoxStart t b e
 ending_at total (E.AuxBoxData t a n) = E.AuxBoxData t (total - n) n
 ending_at total (E.AuxBoxEnd t) = E.AuxBoxEnd t
 
--- the event with its payload's place in the file: a payload is the last that was consumed (`PayloadPlaces` of jxl_totals)
+-- the event with its payload's place in the file: a payload is the last that was consumed (`PayloadPlaces` of jxl_files)
 abbrev pub in_file : FileEvent → FileEvent
 in_file e = carrying (ending_at e.total e.event) e.total
 

@@ -8,7 +8,8 @@ ghost use Rattle.jxl_feed.specs.Fed.{told_fed};
 
 use jxl_container::{BitstreamKind, ContainerParser, FileEvent, FileRefusal, StepResult};
 
-// A step's answer without the parser.
+// A step's answer without the parser. Not `StepResult` over a parameter for the record: with a lent parser there is none to tell, and a
+// unit in its place would be no plainer.
 #[derive(Clone, Copy)]
 pub enum Fed {
     Shown {

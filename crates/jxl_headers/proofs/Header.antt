@@ -6,7 +6,7 @@ use Prim.Native.Nat.{ℕ, ◌-◌, ◌<◌, ◌≤◌}
 use native.Mathlib.Omega.{arith}
 use lib.Dec.{ltb, eqb}
 use lib.ListN.{length}
-use borrow.Author.Tests.{lt-ltb, le-ltb, eq-eqb, ne_eqb, ltb-true, ltb-false}
+use borrow.Author.Tests.{lt-ltb, le-ltb, eq-eqb, ltb-true, ltb-false}
 use Rattle.jxl_headers.specs.Bytes.{if, be32, be64}
 use Rattle.jxl_headers.specs.Header.{Header, short, bad, box, header_of, extended, ToldHeader, numbered}
 use Rattle.jxl_reach.specs.declared.BytesLeft.{BytesLeft}
@@ -20,14 +20,6 @@ module _ (s : List ℕ) where
   unfolding extended
   extended_short h = rw (lt-ltb (length s) 16 h)
 
-  pub extended_bad : 16 ≤ length s → be64 s 8 < 16 → extended s ≡ bad ExtendedSize
-  unfolding extended
-  extended_bad h k = rw (le-ltb (length s) 16 h, lt-ltb (be64 s 8) 16 k)
-
-  pub extended_box : 16 ≤ length s → 16 ≤ be64 s 8 → extended s ≡ box (be32 s 4) (Bytes (be64 s 8 - 16)) 16
-  unfolding extended
-  extended_box h k = rw (le-ltb (length s) 16 h, le-ltb (be64 s 8) 16 k)
-
   pub header_short : length s < 8 → header_of s ≡ short
   unfolding header_of
   header_short h = rw (lt-ltb (length s) 8 h)
@@ -35,21 +27,6 @@ module _ (s : List ℕ) where
   pub header_extended : 8 ≤ length s → be32 s 0 ≡ 1 → header_of s ≡ extended s
   unfolding header_of
   header_extended h e = rw (le-ltb (length s) 8 h, eq-eqb (be32 s 0) 1 e)
-
-  pub header_to_end : 8 ≤ length s → be32 s 0 ≡ 0 → header_of s ≡ box (be32 s 4) ToEnd 8
-  unfolding header_of
-  header_to_end h e = rw (le-ltb (length s) 8 h, e)
-
-  pub header_bad : 8 ≤ length s → (be32 s 0 ≡ 1 → ⊥) → (be32 s 0 ≡ 0 → ⊥) → be32 s 0 < 8 → header_of s ≡ bad ShortSize
-  unfolding header_of
-  header_bad h n z l =
-      rw (le-ltb (length s) 8 h, ne_eqb (be32 s 0) 1 n, ne_eqb (be32 s 0) 0 z, lt-ltb (be32 s 0) 8 l)
-
-  pub header_box : 8 ≤ length s → (be32 s 0 ≡ 1 → ⊥) → (be32 s 0 ≡ 0 → ⊥) → 8 ≤ be32 s 0
-      → header_of s ≡ box (be32 s 4) (Bytes (be32 s 0 - 8)) 8
-  unfolding header_of
-  header_box h n z l =
-      rw (le-ltb (length s) 8 h, ne_eqb (be32 s 0) 1 n, ne_eqb (be32 s 0) 0 z, le-ltb (be32 s 0) 8 l)
 
 -- a header that wants more has fewer than 16 bytes; one that is read has 8 bytes or more, and all of them are there
 abbrev Sized : Header → ℕ → Type 0

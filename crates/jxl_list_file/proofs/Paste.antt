@@ -1,31 +1,12 @@
 -- Lines counted, and put one behind the other into a buffer.
 use mathlib.Core.Path.{◌≡◌, sym, ap, ◌∙◌}
 use mathlib.Core.List.{List, ◌++◌}
-use Prim.Native.Nat.{ℕ, ◌+◌, ◌-◌, ◌≤◌, min}
+use Prim.Native.Nat.{ℕ, ◌+◌, ◌-◌, ◌≤◌}
 use native.Mathlib.Nat.{zero-add}
 use native.Mathlib.Omega.{arith}
 use lib.ListN.{length, take, drop, length-append, length-drop}
 use lib.Seq.{take-add, take_at, drop-drop, drop-append-add, take-append_seam, drop-append_seam, length-take-le, take-length}
-use borrow.Author.Tests.{le-leb}
 use Rattle.jxl_lines.specs.Pasting.{pasted}
-use Rattle.jxl_lines.specs.Putting.{leaves, put_of}
-use Rattle.jxl_lines.specs.declared.Put.TheVariants.{Written, NoRoom}
-
--- a line that fits is put
-pub put_fits : (d : List ℕ) (at : ℕ) (w : List ℕ) → at + length w ≤ length d → put_of d at w ≡ leaves (Written (at + length w)) (pasted d at w)
-unfolding put_of
-put_fits d at w h = rw (le-leb (at + length w) (length d) h)
-
--- what an answer says of such a line
-pub put_written : (d : List ℕ) (at : ℕ) (w e : List ℕ) {n : ℕ} → at + length w ≤ length d → leaves (Written n) e ≡ put_of d at w
-    → (n ≡ at + length w) × (e ≡ pasted d at w)
-put_written d at w e h q = let fits = put_fits d at w h in (cc, cc)
-
-pub put_refused : (d : List ℕ) (at : ℕ) (w e : List ℕ) {n : ℕ} → at + length w ≤ length d → leaves (NoRoom n) e ≡ put_of d at w → ⊥
-put_refused d at w e h q =
-    let fits = put_fits d at w h in
-    let z : ◌≡◌ {A = ℕ} 0 1 = cc in
-    omega arith
 
 -- the first w bytes of a text stand at the front of a buffer; the next line of it is put behind them
 module _ (all buffer line after : List ℕ) (w : ℕ) (e : drop w all ≡ line ++ after) (h : w ≤ length all) where
@@ -68,13 +49,3 @@ module _ (all buffer out line after : List ℕ) (w : ℕ) (room : length all ≤
     ap (λ (m : ℕ). drop m all) n ∙ further all buffer line after w e h,
     p ∙ ap (λ (l : List ℕ). pasted l w line) o ∙ paste_line all buffer line after w e h ∙ ap (λ (m : ℕ). take m all ++ drop m buffer) (sym n),
   )
-
--- a sum that saturates, one line further on
-pub one_line : (all rest line after total : ℕ) → rest ≡ line + after → rest ≤ all → total ≡ min (all - rest) 18446744073709551615
-    → (after ≤ all) × (min (total + line) 18446744073709551615 ≡ min (all - after) 18446744073709551615)
-one_line all rest line after total e h t = (omega arith, omega arith)
-
--- and at the end
-pub last_line : (all rest line total : ℕ) → rest ≡ line → rest ≤ all → total ≡ min (all - rest) 18446744073709551615
-    → min (total + line) 18446744073709551615 ≡ min all 18446744073709551615
-last_line all rest line total e h t = omega arith

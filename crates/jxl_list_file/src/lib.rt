@@ -14,7 +14,7 @@ use jxl_container::{ContainerParser, StepResult};
 use jxl_lines::Line;
 use jxl_list_end::next_at_end;
 use jxl_list_rules::AfterStep;
-use jxl_listing::Put;
+use jxl_listing::{NoRoom, Put};
 
 // The bytes of the file behind those that the record counts.
 fn behind(parser: ContainerParser, file: &[u8]) -> &[u8]
@@ -35,21 +35,13 @@ fn next(parser: ContainerParser, file: &[u8]) -> AfterStep
     ensures { result ≡ next_of parser (drop parser.total file.now) }
 {
     match jxl_container::step(parser, behind(parser, file)) {
-        StepResult::Shown {
-            next,
-            consumed: _,
-            event,
-        } => AfterStep {
+        StepResult::Shown { next, event, .. } => AfterStep {
             parser: next,
             answer: Ok(event.in_file().event),
         },
-        StepResult::Want { next, consumed: _ } => at_end(next, file),
-        StepResult::Refused {
-            next,
-            consumed: _,
-            refusal: _,
-        } => at_end(next, file),
-        StepResult::Closed { next, consumed: _ } => at_end(next, file),
+        StepResult::Want { next, .. }
+        | StepResult::Refused { next, .. }
+        | StepResult::Closed { next, .. } => at_end(next, file),
     }
 }
 
@@ -120,14 +112,12 @@ fn write(file: &[u8], out: &mut [u8]) -> usize
 }
 
 // Puts a line for which there is room, and answers where the next one goes.
+#[tactic(auto, using(jxl_lines::proofs::Putting::put_where_room))]
 fn put(out: &mut [u8], at: usize, line: Line) -> usize
     requires { at + length (text line) ≤ length out.old }
     ensures { (result ≡ at + length (text line)) × (out.new ≡ pasted out.old at (text line)) }
 {
-    match jxl_listing::put_line(out, at, line) {
-        Put::Written(next) => next,
-        Put::NoRoom(_) => at,
-    }
+    jxl_listing::put_line(out, at, line).unwrap()
 }
 
 // The listing of a whole file in memory: all its lines at the front of `out`; or how much room they need, and `out` as it was.
@@ -136,7 +126,7 @@ pub fn list_file(file: &[u8], out: &mut [u8]) -> Put
 {
     let needed = measure(file);
     if out.len() < needed {
-        return Put::NoRoom(needed);
+        return Err(NoRoom { needed });
     }
-    Put::Written(write(file, out))
+    Ok(write(file, out))
 }

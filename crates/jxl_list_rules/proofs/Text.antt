@@ -1,7 +1,7 @@
 -- The text of what is still to come, taken line by line.
 use mathlib.Core.Path.{◌≡◌, refl, sym, ap, ◌∙◌, subst}
 use mathlib.Core.List.{List, [], ◌∷◌, ◌++◌, append_assoc, append-nil}
-use Prim.Native.Nat.{ℕ, suc, ◌+◌, ◌-◌, ◌<◌, ◌≤◌, min}
+use Prim.Native.Nat.{ℕ, ◌+◌, ◌-◌, ◌<◌, ◌≤◌, min}
 use native.Mathlib.Nat.{add-zero}
 use native.Mathlib.Omega.{arith}
 use lib.ListN.{length, take, drop, length-drop}
@@ -24,7 +24,7 @@ use Rattle.jxl_totals.specs.Parser.{parser}
 use Rattle.jxl_totals.specs.Feeding.{Stop, Seen, events, joined, followed, placed, more, waits, ends}
 use Rattle.jxl_totals.specs.Feeding as Feeding
 use Rattle.jxl_endings.specs.End.{Ended, done, refuses, end_of}
-use Rattle.jxl_endings.specs.Ended.{placed_at, owed_by, finished_by, ended_listing, outcome}
+use Rattle.jxl_endings.specs.Ended.{placed_at, finished_by, ended_listing, outcome}
 use Rattle.jxl_endings.specs.Laws.{Owable, side_ends, empty_code, no_more, Owed, none, one}
 use Rattle.jxl_endings.proofs.Laws.{Holds, end_again, step_again, done_holds, end_keeps}
 use Rattle.jxl_endings.proofs.Theorems.{settles, ends_as_listed}
@@ -39,7 +39,6 @@ use Rattle.jxl_lines.specs.Pasting.{pasted}
 use Rattle.jxl_lines.specs.Putting.{leaves}
 use Rattle.jxl_lines.specs.declared.Line.{Line}
 use Rattle.jxl_lines.specs.declared.Line.TheVariants as L
-use Rattle.jxl_lines.specs.declared.Put.TheVariants.{Written, NoRoom}
 use Rattle.jxl_lines.specs.declared.StopWord.{StopWord}
 use Rattle.jxl_lines.specs.declared.StopWord.TheVariants as S
 use Rattle.jxl_list_rules.specs.declared.AfterStep.{AfterStep}
@@ -224,10 +223,6 @@ module _ (p : ContainerParser) (f : List ℕ) where
       → next_of p (drop p.total f) ≡ next_end (end_of q (drop q.total f))
   stops_refusing {r} {q} {c} st = stops_behind q c (refuses_counts p (drop p.total f) st).0 (ap (next_in (drop p.total f)) st)
 
--- the end call on the bytes from k on
-pub far_end : (p : ContainerParser) (s : List ℕ) (k : ℕ) → end_of p (take (length s - k) (drop k s)) ≡ end_of p (drop k s)
-far_end p s k = ap (end_of p) (take_all (length s - k) (drop k s) (omega (arith, length-drop k s)))
-
 -- the lines of two rows of events
 pub texts_append : (xs ys : List ParseEvent) → texts (xs ++ ys) ≡ texts xs ++ texts ys
 texts_append [] ys = refl
@@ -272,10 +267,10 @@ text_of_file f =
     ∙ ap listing_text (ends_as_listed f (drop seen.consumed f) seen refl (settles refl (takes fresh 0 f).1) ∙ ap ended_listing (whole_file f))
 
 -- a listing that fits, and one that does not
-pub list_fits : (d w : List ℕ) → length w ≤ length d → list_of d w ≡ leaves (Written (length w)) (pasted d 0 w)
+pub list_fits : (d w : List ℕ) → length w ≤ length d → list_of d w ≡ leaves (Ok (length w)) (pasted d 0 w)
 unfolding list_of
 list_fits d w h = rw (le-leb (length w) (length d) h)
 
-pub list_refused : (d w : List ℕ) → length d < length w → list_of d w ≡ leaves (NoRoom (min (length w) 18446744073709551615)) d
+pub list_refused : (d w : List ℕ) → length d < length w → list_of d w ≡ leaves (Err (record { needed = min (length w) 18446744073709551615 })) d
 unfolding list_of
 list_refused d w h = rw (lt-leb (length w) (length d) h)

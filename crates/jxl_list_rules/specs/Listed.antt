@@ -20,7 +20,6 @@ use Rattle.jxl_lines.specs.declared.Line.{Line}
 use Rattle.jxl_lines.specs.declared.Line.TheVariants as L
 use Rattle.jxl_lines.specs.declared.StopWord.{StopWord}
 use Rattle.jxl_lines.specs.declared.StopWord.TheVariants as S
-use Rattle.jxl_lines.specs.declared.Put.TheVariants.{Written, NoRoom}
 use Rattle.jxl_list_rules.specs.declared.AfterStep.{AfterStep}
 
 -- how a feed stops, as a turn says it
@@ -116,5 +115,5 @@ next_of p s = next_in s (step_of p s)
 -- of 64 bits
 unfoldable pub list_of : List ℕ → List ℕ → Outcome
 list_of d w =
-    if (leb (length w) (length d)) (leaves (Written (length w)) (pasted d 0 w))
-    (leaves (NoRoom (min (length w) (2 ^ 64 - 1))) d)
+    if (leb (length w) (length d)) (leaves (Ok (length w)) (pasted d 0 w))
+    (leaves (Err (record { needed = min (length w) (2 ^ 64 - 1) })) d)

@@ -10,7 +10,7 @@ use Rattle.jxl_list_rules.specs.Turned.{Turned, over, turn_of}
 abbrev pub goes_on : Turned → Turned → Turned
 goes_on t u = record { lines = t.lines ++ u.lines; parser = u.parser; held = u.held; consumed = t.consumed + u.consumed; stop = u.stop }
 
--- by why t ended; `rest` is the row behind it
+-- by the stop of t, if it came to one; `rest` is the row behind it
 abbrev pub row_by : Turned → Turned → Option StopWord → Turned
 row_by t rest None = goes_on t rest
 row_by t rest (Some w) = t

@@ -14,7 +14,7 @@ use Rattle.jxl_lines.specs.declared.StopWord.TheVariants as S
 use Rattle.jxl_list_rules.specs.Listed.{lines_of}
 use Rattle.jxl_list_rules.specs.declared.AfterTurn.{AfterTurn}
 
--- the lines put, the record, the event held and the bytes of the input consumed then, and why the turn ended
+-- the lines put, the record, the event held and the bytes of the input consumed then, and the stop; with none the next line had no room
 pub record Turned : Type 0 where
   pub lines : List ℕ
   pub parser : ContainerParser

@@ -5,7 +5,7 @@ use Prim.Native.Nat.{ℕ, suc, ◌+◌, ◌-◌, ◌≤◌}
 use native.Mathlib.Omega.{arith}
 use lib.ListN.{length, take, drop}
 use lib.Seq.{drop-drop, length-take-le}
-use Rattle.std.specs.Prelude.{Option, None, Some}
+use Rattle.std.specs.Prelude.{Option, None, Some, Ok, Err}
 use Rattle.jxl_refusals.specs.Refusals.{why}
 use Rattle.jxl_events.specs.declared.FileEvent.{FileEvent}
 use Rattle.jxl_totals.specs.Step.{shows, wants, refuses, step_of}
@@ -24,7 +24,7 @@ use Rattle.jxl_joiner.specs.declared.Joiner.{Joiner}
 use Rattle.jxl_lines.specs.Lines.{printed}
 use Rattle.jxl_lines.specs.Pasting.{pasted}
 use Rattle.jxl_lines.specs.Putting.{leaves, put_of}
-use Rattle.jxl_lines.specs.declared.Put.TheVariants.{Written, NoRoom}
+use Rattle.jxl_lines.specs.declared.NoRoom.{NoRoom}
 use Rattle.jxl_lines.specs.declared.StopWord.{StopWord}
 use Rattle.jxl_lines.specs.declared.StopWord.TheVariants as S
 use Rattle.jxl_list_rules.specs.Listed.{lines_of}
@@ -111,7 +111,7 @@ module _ (s buffer : List ℕ) (all : Turned) (out : List ℕ) (r : AfterTurn) (
     going_fewer = ap (λ (y : Seen). length y.shown) (taken_shown r.parser s r.consumed st)
 
     -- its line, if any, was put
-    pub going_on : {n : ℕ} (put : List ℕ) → leaves (Written n) put ≡ put_of out r.written (lines_of (handed added.out))
+    pub going_on : {n : ℕ} (put : List ℕ) → leaves (Ok n) put ≡ put_of out r.written (lines_of (handed added.out))
         → Going s buffer all put (leaving q added.next (r.consumed + c) n None)
     going_on {n} put w-is =
         let h = r.joiner.held in
@@ -141,7 +141,7 @@ module _ (s buffer : List ℕ) (all : Turned) (out : List ℕ) (r : AfterTurn) (
         }
 
     -- its line has no room
-    pub going_full : {n : ℕ} (put : List ℕ) → leaves (NoRoom n) put ≡ put_of out r.written (lines_of (handed added.out)) → Spec.Told r put buffer all
+    pub going_full : {n : NoRoom} (put : List ℕ) → leaves (Err n) put ≡ put_of out r.written (lines_of (handed added.out)) → Spec.Told r put buffer all
     going_full put w-is =
         let h = r.joiner.held in
         let w = r.written in

@@ -9,17 +9,18 @@ use lib.Dec.{leb}
 use lib.ListN.{length, take, drop, length-append, length-drop, take-append-drop}
 use lib.Seq.{take_at, drop_at, length-take-le}
 use borrow.Author.Tests.{le-leb, leb-true, leb-false}
+use Rattle.std.specs.Prelude.{Ok, Err}
 use Rattle.jxl_lines.specs.Pasting.{pasted}
 use Rattle.jxl_lines.specs.Putting.{leaves, put_of}
-use Rattle.jxl_lines.specs.declared.Put.TheVariants.{Written, NoRoom}
+use Rattle.jxl_lines.specs.declared.NoRoom.{NoRoom}
 
 -- nothing to put
-pub put_nothing : (d : List ℕ) (at : ℕ) → at ≤ length d → put_of d at [] ≡ leaves (Written at) d
+pub put_nothing : (d : List ℕ) (at : ℕ) → at ≤ length d → put_of d at [] ≡ leaves (Ok at) d
 unfolding put_of
 put_nothing d at h = rw (add-zero at, le-leb at (length d) h, append-nil (take at d), take-append-drop at d)
 
 -- what an answer says of the bytes that were to be put
-pub put_was : (d : List ℕ) (at : ℕ) (w e : List ℕ) {n : ℕ} → leaves (Written n) e ≡ put_of d at w
+pub put_was : (d : List ℕ) (at : ℕ) (w e : List ℕ) {n : ℕ} → leaves (Ok n) e ≡ put_of d at w
     → (at + length w ≤ length d) × (n ≡ at + length w) × (e ≡ pasted d at w)
 unfolding put_of
 put_was d at w e {n} q = go (leb (at + length w) (length d)) refl
@@ -28,7 +29,7 @@ put_was d at w e {n} q = go (leb (at + length w) (length d)) refl
     go true h = let same = rw h at q in (leb-true (at + length w) (length d) h, cc, cc)
     go false h = absurd (let same = rw h at q in let z : ◌≡◌ {A = ℕ} 0 1 = cc in omega arith)
 
-pub put_was_not : (d : List ℕ) (at : ℕ) (w e : List ℕ) {n : ℕ} → leaves (NoRoom n) e ≡ put_of d at w → (length d < at + length w) × (e ≡ d)
+pub put_was_not : (d : List ℕ) (at : ℕ) (w e : List ℕ) {n : NoRoom} → leaves (Err n) e ≡ put_of d at w → (length d < at + length w) × (e ≡ d)
 unfolding put_of
 put_was_not d at w e {n} q = go (leb (at + length w) (length d)) refl
   where

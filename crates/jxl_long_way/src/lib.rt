@@ -19,7 +19,7 @@ fn put_held(out: &mut [u8], at: usize, held: Option<FileEvent>) -> Put
     ensures { leaves result out.new ≡ put_of out.old at (lines_of (handed held)) }
 {
     match held {
-        None => Put::Written(at),
+        None => Ok(at),
         Some(whole) => jxl_listing::put_line(out, at, Line::Shown(whole.event)),
     }
 }
@@ -37,7 +37,8 @@ fn stopped(t: AfterTurn, next: ContainerParser, consumed: usize, stop: StopWord)
     }
 }
 
-// The work of a turn, step by step. `t` is what it leaves if the next line has no room.
+// The work of a turn, step by step. `t` is what it leaves if the next line has no room. Not a `for` over the steps: such a turn ends before the
+// event, with the record and the joiner of then.
 pub fn turn_from(parser: ContainerParser, joiner: Joiner, input: &[u8], out: &mut [u8]) -> AfterTurn
     ensures { Told result out.new out.old (turn_of input.now (length out.old) parser joiner.held) }
 {
@@ -56,18 +57,16 @@ pub fn turn_from(parser: ContainerParser, joiner: Joiner, input: &[u8], out: &mu
                 event,
             } => {
                 let added = t.joiner.add(event);
-                match put_held(out, t.written, added.out) {
-                    Put::Written(written) => {
-                        t = AfterTurn {
-                            parser: next,
-                            joiner: added.next,
-                            consumed: t.consumed + consumed,
-                            written,
-                            stop: None,
-                        };
-                    }
-                    Put::NoRoom(_) => return t,
-                }
+                let Ok(written) = put_held(out, t.written, added.out) else {
+                    return t;
+                };
+                t = AfterTurn {
+                    parser: next,
+                    joiner: added.next,
+                    consumed: t.consumed + consumed,
+                    written,
+                    stop: None,
+                };
             }
             StepResult::Want { next, consumed } => {
                 return stopped(t, next, consumed, StopWord::Want);

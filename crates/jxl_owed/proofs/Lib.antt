@@ -1,2 +1,1 @@
-mod Unread
 pub mod Unique

@@ -79,7 +79,6 @@ fn all_read(p: BoxParser) -> Close
 }
 
 // What an end comes to.
-#[tactic(auto, using(crate::proofs::Unread::some_unread, crate::proofs::Unread::none_unread))]
 pub fn close_of(p: BoxParser, unread: &[u8]) -> Close
     ensures { told_close result ≡ Spec.close_of p unread.now }
 {

@@ -1,7 +1,5 @@
 -- The rule of a number and its values, found again.
 use mathlib.Core.Path.{◌≡◌, refl, sym, ap, ◌∙◌}
-use mathlib.Core.List.{List, []}
-use Prim.Native.Nat.{ℕ}
 use lib.Dec.{eqb}
 use lib.ListN.{get_or}
 use Rattle.jxl_cuts.specs.Machine.{if}

@@ -1,5 +1,5 @@
 -- What each way through the four tests of `which_signature` says of the input.
-use mathlib.Core.Path.{◌≡◌, refl, sym, ◌∙◌}
+use mathlib.Core.Path.{◌≡◌, refl}
 use mathlib.Core.Bool.{Bool, true, false}
 use mathlib.Core.List.{List}
 use Prim.Native.Nat.{ℕ, ◌≤◌}
@@ -33,7 +33,6 @@ module _ (s : List ℕ) where
       → starts s container_sig ≡ false → signature_of s ≡ Neither
   unfolding signature_of
   is_neither a b d e = rw (a, b, d, e)
-  -- two answers that meet the promise of `which_signature` are equal
 
 -- a container's signature is there; what is too short to tell has at most 12 bytes
 abbrev Sized : Signature → ℕ → Type 0

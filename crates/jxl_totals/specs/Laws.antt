@@ -66,3 +66,6 @@ OneParser = OneAnswer (λ r. r ≡ fresh)
 
 abbrev pub OneKind : Type 0
 OneKind = (p : ContainerParser) → OneAnswer (λ r. r ≡ kind_of p)
+
+abbrev pub OneStopped : Type 0
+OneStopped = (p : ContainerParser) (w : BoxRefusal) → OneAnswer (λ r. r ≡ counted (Boxes.refused w p.boxes) p.total p.header)

@@ -48,15 +48,18 @@ fn piece(rt: &(impl Print + AllocGlobal), parser: ContainerParser, file: &[u8]) 
     Ok(())
 }
 
-// Runs ` STATE LEFT BOXES TOTAL HEX WORD` by the word behind the file: none; or for a piece of the end, `.` for a record that is ended at
-// once, `+` for one that is ended behind one step, else the length of the first of two packets.
+// The word of a piece at this place, where a space parts two words and the seventh goes on to the end; an empty one if there is none.
+fn word(piece: &[u8], place: usize) -> &[u8] {
+    piece.splitn(7, |b| *b == b' ').nth(place).unwrap_or(b"")
+}
+
+// Runs the piece ` STATE LEFT BOXES TOTAL HEX WORD` by the word behind the file: none; or for a piece of the end, `.` for a record that is
+// ended at once, `+` for one that is ended behind one step, else the length of the first of two packets.
 fn run(rt: &(impl Print + AllocGlobal), told: &[u8]) -> io::Result<()> {
-    let mut words = told.splitn(7, |b| *b == b' ').skip(1);
-    let mut word = || words.next().unwrap_or(b"");
-    let parser = box_records::parser(word(), word(), word(), word());
-    let bytes = box_lines::file(rt.alloc(), word())?;
+    let parser = box_records::parser(word(told, 1), word(told, 2), word(told, 3), word(told, 4));
+    let bytes = box_lines::file(rt.alloc(), word(told, 5))?;
     let file = bytes.as_slice();
-    match word() {
+    match word(told, 6) {
         [] => piece(rt, parser, file),
         [b'.', ..] => ends::at_once(rt, parser, file),
         [b'+', ..] => ends::early(rt, parser, file),

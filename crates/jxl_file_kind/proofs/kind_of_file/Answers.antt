@@ -1,5 +1,5 @@
 -- The kind that the parser tells behind its first step.
-use Rattle.std.proofs.Common.{◌≡◌, ◌∙◌}
+use Rattle.std.proofs.Common.{◌∙◌}
 use Rattle.jxl_file_kind.proofs.FirstStep.{kind_after}
 use Rattle.jxl_file_kind.proofs.kind_of_file.Goals as goal
 

@@ -13,10 +13,10 @@ pub loop-next-smaller : goal.loop-next-smaller
 loop-next-smaller c = omega (arith, going_fewer _ _ _ _ _ c.loop-next.invariant c.in-Shown.ensures c.add-added.ensures)
 
 pub loop-next-preserved : goal.loop-next-preserved
-loop-next-preserved c = going_on _ _ _ _ _ c.loop-next.invariant c.in-Shown.ensures c.add-added.ensures c.put_held.new.out c.in-Written.ensures
+loop-next-preserved c = going_on _ _ _ _ _ c.loop-next.invariant c.in-Shown.ensures c.add-added.ensures c.put_held.new.out c.in-Ok.ensures
 
-pub returns-in-NoRoom : goal.returns-in-NoRoom
-returns-in-NoRoom c = going_full _ _ _ _ _ c.loop-next.invariant c.in-Shown.ensures c.add-added.ensures c.put_held.new.out c.in-NoRoom.ensures
+pub returns-in_default : goal.returns-in_default
+returns-in_default c = going_full _ _ _ _ _ c.loop-next.invariant c.in-Shown.ensures c.add-added.ensures c.put_held.new.out c.in_default.ensures
 
 pub stopped-requires : goal.stopped-requires
 stopped-requires c = omega (arith, going_fits _ _ _ _ _ c.loop-next.invariant (A.Want c.in-Want.next c.in-Want.consumed) c.in-Want.ensures)

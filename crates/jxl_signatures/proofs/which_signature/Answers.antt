@@ -1,5 +1,5 @@
 -- The container's signature, where the bare one is not there.
-use Rattle.std.proofs.Common.{◌≡◌, sym, ◌∙◌}
+use Rattle.std.proofs.Common.{sym, ◌∙◌}
 use Rattle.jxl_signatures.specs.Signature.{codestream_sig, container_sig}
 use Rattle.jxl_signatures.proofs.Bytes.{starts_as_std}
 use Rattle.jxl_signatures.proofs.Which.{is_container_lem}
