@@ -1,7 +1,7 @@
 // Field calls and their answers as lines of text, one call a line, in the language of the stored list of the Rust's answers.
 #![tactic(auto)]
 
-ghost use Rattle.std.specs.Prelude.{◌<◌};
+ghost use Rattle.std.specs.Prelude.{◌≡◌, ◌<◌, ◌≤◌, vec_len, IfOk};
 
 use jxl_bitstream::{FieldRefusal, Moved, Read, Refused, U32Specifier};
 use replay_text::{digit_of, leading_number, skip};
@@ -16,8 +16,8 @@ const LIST_MOST: usize = 16;
 // The buffer that a line made, and the position that the calls on it have come to.
 #[derive(Drop)]
 pub struct Buffer {
-    bytes: Vec<u8>,
-    at: usize,
+    pub bytes: Vec<u8>,
+    pub at: usize,
 }
 
 // What an answer tells besides the position: a number, an f32's bits, nothing, or a checksum, which stands alone.
@@ -181,7 +181,9 @@ fn hex_byte(pair: &[u8]) -> u8 {
 
 impl Buffer {
     // The buffer with no bytes.
-    pub fn empty(alloc: Global) -> Buffer {
+    pub fn empty(alloc: Global) -> Buffer
+        ensures { (vec_len result.bytes ≡ 0) × (result.at ≡ 0) }
+    {
         Buffer {
             bytes: Vec::new(alloc),
             at: 0,
@@ -189,7 +191,9 @@ impl Buffer {
     }
 
     // The buffer that a line makes: two hexadecimal digits a byte, from the third place on.
-    pub fn from_line(alloc: Global, line: &[u8]) -> Result<Buffer, AllocError> {
+    pub fn from_line(alloc: Global, line: &[u8]) -> Result<Buffer, AllocError>
+        ensures { IfOk result (λ buffer. (vec_len buffer.bytes ≤ 32) × (buffer.at ≡ 0)) }
+    {
         let bytes = skip(line, 2)
             .chunks(2)
             .take(BUFFER_MOST)
@@ -199,12 +203,10 @@ impl Buffer {
         Ok(Buffer { bytes, at: 0 })
     }
 
-    pub fn move_to(&mut self, at: usize) {
-        self.at = at;
-    }
-
     // Runs the call of a line, and answers the answer's text.
-    pub fn call(&mut self, alloc: Global, line: &[u8]) -> Result<String, AllocError> {
+    pub fn call(&mut self, alloc: Global, line: &[u8]) -> Result<String, AllocError>
+        ensures { self.new.bytes.items ≡ self.old.bytes.items }
+    {
         let answer = call(alloc, &self.bytes, self.at, line)?;
         self.at = match answer {
             Ok((_, at)) => at,

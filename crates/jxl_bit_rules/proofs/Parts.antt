@@ -15,7 +15,6 @@ use lib.Pow.{pow_pos}
 use Rattle.jxl_bit_rules.specs.Answer.{Answer, Field, onward, gives, refuses}
 use Rattle.jxl_bit_rules.specs.Bits.{number, bits, end, start}
 use Rattle.jxl_bit_rules.specs.Readers.{begin, part}
-use Rattle.jxl_bit_rules.specs.Inside.{Ready}
 use Rattle.jxl_bit_rules.specs.Refusals.{eof, width, long}
 use Rattle.jxl_bit_rules.specs.Told.{told, refused}
 use Rattle.jxl_bit_rules.specs.declared.Refused.{Refused}
@@ -51,12 +50,6 @@ begun wide s at p h = go (ltb (2 ^ 61 - 1) (length s)) wide refl refl h
         let place : p ≡ start s at = cc in
         record { short = ltb-false _ _ l; within = omega arith; place = place; narrow = e }
 
--- so a part of n bits may follow
-pub ready : (wide : Bool) (s : List ℕ) (at p : ℕ) → gives (tt {0}) p ≡ begin wide s at → (n : ℕ) → n ≤ 32 → Ready s p n
-ready wide s at p h n small =
-    let b = begun wide s at p h in
-    record { short = b.short; within = b.within; narrow = small }
-
 pub record Given (n : ℕ) (s : List ℕ) (at v p : ℕ) : Type 0 where
   pub next : p ≡ at + n
   pub within : p ≤ end s
@@ -77,26 +70,6 @@ given n s at v p h = go (leb (at + n) (end s)) refl h
         let value : v ≡ bits s at n = cc in
         record { next = next; within = omega (arith, leb-true (at + n) (end s) l); value = value; below = rw value (bits_below s at n) }
     go false l k = differ k
-
--- where a part is refused it is refusal 3, where it began
-pub short : (n : ℕ) (s : List ℕ) (at r : ℕ) (t : List ℕ) (p : ℕ) → refuses r t p ≡ part n s at → part n s at ≡ refuses eof [] at
-unfolding part
-short n s at r t p h = go (leb (at + n) (end s)) h
-  where
-    go : (b : Bool) → refuses r t p ≡ cond b (gives (bits s at n) (at + n)) (refuses eof [] at)
-        → ◌≡◌ {A = Answer ℕ} (cond b (gives (bits s at n) (at + n)) (refuses eof [] at)) (refuses eof [] at)
-    go true k = differ (sym k)
-    go false k = refl
-
--- where a call with no width is refused at its beginning, it is refusal 8, the position as given
-pub long_only : (s : List ℕ) (at r : ℕ) (t : List ℕ) (p : ℕ) → refuses r t p ≡ begin false s at → begin false s at ≡ refuses long [] at
-unfolding begin
-long_only s at r t p h = go (ltb (2 ^ 61 - 1) (length s)) h
-  where
-    go : (b : Bool) → refuses r t p ≡ cond b (refuses long [] at) (gives (tt {0}) (start s at))
-        → ◌≡◌ {A = Answer (Unit {0})} (cond b (refuses long [] at) (gives tt (start s at))) (refuses long [] at)
-    go true k = refl
-    go false k = differ (sym k)
 
 -- a refusal that `?` hands on is told as it was
 pub handed_on : {A : Type 0} (r : Result (A × ℕ) Refused) (e : Refused) → IsErrAnd r (λ y. y ≡ e) → told r ≡ refused e

@@ -13,7 +13,6 @@ use lib.ListN.{length}
 use Rattle.jxl_bit_rules.specs.Answer.{Answer, gives, refuses, ◌>>=◌, done}
 use Rattle.jxl_bit_rules.specs.Bits.{bits, end, start}
 use Rattle.jxl_bit_rules.specs.Readers.{over, begin, part, read, peek, consume, move}
-use Rattle.jxl_bit_rules.specs.Inside.{Ready}
 use Rattle.jxl_bit_rules.specs.Theorems.{ReadGave, ReadGives, ReadRead, PeekConsume}
 use Rattle.jxl_bit_rules.proofs.Order.{together}
 use Rattle.jxl_bit_rules.proofs.Parts.{begun, given, gave}
@@ -72,14 +71,3 @@ peek_consume n s at = go (begin (over n) s at) refl
         let k = begun (over n) s at q (sym e) in
         let same : begin (over n) s q ≡ gives tt q = begins n s q k.short (ltb-false 32 n k.narrow) ∙ ap (gives tt) (min-eq_left k.within) in
         rw e (moved q same (leb (q + n) (end s)) refl)
-
--- where a part may be read, a read is that part
-pub read_part : (n : ℕ) (s : List ℕ) (at : ℕ) → Ready s at n → read n s at ≡ part n s at
-unfolding read
-read_part n s at r =
-    let here : start s at ≡ at = min-eq_left r.within in
-    rw (begins n s at r.short r.narrow, here)
-
--- so what is answered there as a read is, is answered as the part
-pub as_part : {a : Answer ℕ} (n : ℕ) (s : List ℕ) (at : ℕ) → length s ≤ 2 ^ 61 - 1 → at ≤ end s → n ≤ 32 → a ≡ read n s at → a ≡ part n s at
-as_part n s at short within narrow e = e ∙ read_part n s at (record { short = short; within = within; narrow = narrow })

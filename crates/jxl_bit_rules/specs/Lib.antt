@@ -3,5 +3,4 @@ pub mod Refusals
 pub mod Told
 pub mod Bits
 pub mod Readers
-pub mod Inside
 pub mod Theorems

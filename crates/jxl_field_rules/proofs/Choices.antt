@@ -112,8 +112,8 @@ unfolding select
 four_refused s at k p w r t q first low high h =
     let g = given 2 s at k p first in
     rw (← first) (each (λ k. (k < 2 → w ≡ 0) → (2 ≤ k → w ≡ 2 * k) → refuses r t q ≡ choice (chosen four k) s p)
-        (λ l m. never_refused s p r t q g.within (h ∙ ap (λ (n : ℕ). part n s p) (l (omega arith))))
-        (λ l m. never_refused s p r t q g.within (h ∙ ap (λ (n : ℕ). part n s p) (l (omega arith))))
-        (λ l m. let e = h ∙ ap (λ (n : ℕ). part n s p) (m (omega arith)) in rw (← e))
-        (λ l m. let e = h ∙ ap (λ (n : ℕ). part n s p) (m (omega arith)) in rw (← e))
-        k g.below low high)
+    (λ l m. never_refused s p r t q g.within (h ∙ ap (λ (n : ℕ). part n s p) (l (omega arith))))
+    (λ l m. never_refused s p r t q g.within (h ∙ ap (λ (n : ℕ). part n s p) (l (omega arith))))
+    (λ l m. let e = h ∙ ap (λ (n : ℕ). part n s p) (m (omega arith)) in rw (← e))
+    (λ l m. let e = h ∙ ap (λ (n : ℕ). part n s p) (m (omega arith)) in rw (← e))
+    k g.below low high)

@@ -82,10 +82,10 @@ pub short_refused : (k : ℕ) → k ≤ 2 → (s : List ℕ) (at w r : ℕ) (t :
     → refuses r t p ≡ part w s at → refuses r t p ≡ u64_by k s at
 short_refused k l s at w r t p within two less h =
     three (λ k. (k ≡ 2 → w ≡ 8) → ((k ≡ 2 → ⊥) → w ≡ 4 * k) → refuses r t p ≡ u64_by k s at)
-        (λ m n. never_refused s at r t p within (h ∙ ap (λ (j : ℕ). part j s at) (n (λ e. absurd (omega arith)))))
-        (λ m n. let e = h ∙ ap (λ (j : ℕ). part j s at) (n (λ e. absurd (omega arith))) in rw (← e))
-        (λ m n. let e = h ∙ ap (λ (j : ℕ). part j s at) (m refl) in rw (← e))
-        k l two less
+    (λ m n. never_refused s at r t p within (h ∙ ap (λ (j : ℕ). part j s at) (n (λ e. absurd (omega arith)))))
+    (λ m n. let e = h ∙ ap (λ (j : ℕ). part j s at) (n (λ e. absurd (omega arith))) in rw (← e))
+    (λ m n. let e = h ∙ ap (λ (j : ℕ). part j s at) (m refl) in rw (← e))
+    k l two less
 
 -- ---- U64 takes at most 73 bits
 same_place : {A : Type 0} {a b : A} {p q : ℕ} → gives a p ≡ gives b q → p ≡ q

@@ -35,7 +35,5 @@ pub fn widen(code: u16) -> Option<f32>
     if exponent == 0 {
         return Some(subnormal(sign, mantissa));
     }
-    Some(f32::from_bits(
-        sign * 0x8000_0000 + (exponent + 112) * 0x80_0000 + mantissa * 0x2000,
-    ))
+    Some(f32::from_bits(sign * 0x8000_0000 + (exponent + 112) * 0x80_0000 + mantissa * 0x2000))
 }

@@ -44,6 +44,7 @@ impl<'a> Bitstream<'a> {
         result
     }
 
+    // The same of a move, whose answer has no value.
     fn keep_move(&mut self, answer: Moved) -> BitstreamResult<()>
         ensures same { self.new.bytes ≡ self.old.bytes }
         ensures result_value { result_at result self.new.at ≡ told_moved answer }

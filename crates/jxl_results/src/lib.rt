@@ -25,6 +25,6 @@ pub fn split_move(answer: Moved) -> (BitstreamResult<()>, usize)
 {
     match answer {
         Ok(at) => (Ok(()), at),
-        Err(refused) => (Err(refused.refusal), refused.at),
+        Err(stopped) => (Err(stopped.refusal), stopped.at),
     }
 }

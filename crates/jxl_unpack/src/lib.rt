@@ -15,7 +15,8 @@ pub fn unpack_signed(x: u32) -> i32
     (base as i32) ^ flip
 }
 
-// `UnpackSigned` of a `u64`.
+// `UnpackSigned` of a `u64`. The narrow one is not said by it: that would do 64-bit work for 32 bits, and the cast back would need a
+// proof of its own that the number fits, where the two now share one law over the width, `Unpacks`.
 pub fn unpack_signed_u64(x: u64) -> i64
     ensures { result ≡ unpacked x }
 {

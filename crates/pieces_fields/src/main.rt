@@ -17,7 +17,7 @@ fn run(alloc: Global, buffer: &mut Buffer, line: &[u8]) -> Result<String, AllocE
     match line {
         [.., b'=', _] => return buffer.call(alloc, line),
         [b'n', ..] => *buffer = Buffer::from_line(alloc, line)?,
-        [b'@', ..] => buffer.move_to(leading_number(skip(line, 2), 10).0 as usize),
+        [b'@', ..] => buffer.at = leading_number(skip(line, 2), 10).0 as usize,
         _ => {}
     }
     Ok(String::new(alloc))

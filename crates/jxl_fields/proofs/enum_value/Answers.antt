@@ -11,6 +11,6 @@ returns-in_err-x c =
     let none = rw c.in_ok-k.ensures.0 at c.in_err-x.ensures in
     handed_on c.from_residual-in_err-x.result c.in_err-x.field-0.0 c.from_residual-in_err-x.ensures.1
     ∙ four_refused place.bytes.now place.at c.in_ok-k.k c.in_ok-k.next.at c.if-k-lt2.width _ _ _ c.in_ok-k.ensures.1
-        (elim c.if-k-lt2.branch [ then-k-lt2 b ↦ λ l. b.width-is | else-k-lt2 b ↦ λ l. absurd (omega arith) ])
-        (elim c.if-k-lt2.branch [ then-k-lt2 b ↦ λ l. absurd (omega arith) | else-k-lt2 b ↦ λ l. b.width-is ])
-        none
+    (elim c.if-k-lt2.branch [ then-k-lt2 b ↦ λ l. b.width-is | else-k-lt2 b ↦ λ l. absurd (omega arith) ])
+    (elim c.if-k-lt2.branch [ then-k-lt2 b ↦ λ l. absurd (omega arith) | else-k-lt2 b ↦ λ l. b.width-is ])
+    none

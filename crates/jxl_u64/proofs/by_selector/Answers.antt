@@ -10,6 +10,6 @@ returns-in_err-x c =
     let place = c.args.place in
     handed_on c.from_residual-in_err-x.result c.in_err-x.field-0.0 c.from_residual-in_err-x.ensures.1
     ∙ short_refused c.args.selector c.if-selector-gt2.false place.bytes.now place.at c.if-selector-eq2.width _ _ _ place.within
-        (elim c.if-selector-eq2.branch [ then-selector-eq2 b ↦ λ e. b.width-is | else-selector-eq2 b ↦ λ e. absurd (b.if-selector-eq2.false e) ])
-        (elim c.if-selector-eq2.branch [ then-selector-eq2 b ↦ λ n. absurd (n b.if-selector-eq2.true) | else-selector-eq2 b ↦ λ n. b.width-is ])
-        c.in_err-x.ensures
+    (elim c.if-selector-eq2.branch [ then-selector-eq2 b ↦ λ e. b.width-is | else-selector-eq2 b ↦ λ e. absurd (b.if-selector-eq2.false e) ])
+    (elim c.if-selector-eq2.branch [ then-selector-eq2 b ↦ λ n. absurd (n b.if-selector-eq2.true) | else-selector-eq2 b ↦ λ n. b.width-is ])
+    c.in_err-x.ensures
