@@ -1,6 +1,9 @@
 // What the drivers of the bench share: the packets of a file, and the loop over its steps.
 #![tactic(auto)]
 
+ghost use Rattle.std.specs.Prelude.{◌≡◌, ◌+◌, ◌%◌, ◌^◌, true, min, length};
+ghost use Rattle.jxl_slices.specs.Part.{between};
+
 use jxl_container::{ContainerParser, FileEvent, ParseEvent, StepResult};
 
 // A file that is given in packets of one length: how much of it is consumed, and where the newest packet ends.
@@ -14,7 +17,9 @@ pub struct Packets<'f> {
 
 impl<'f> Packets<'f> {
     // The first packet of a file.
-    pub fn new(file: &'f [u8], packet: usize) -> Self {
+    pub fn new(file: &'f [u8], packet: usize) -> Self
+        ensures { (result.consumed ≡ 0) × (result.end ≡ min packet (length file.now)) }
+    {
         Packets {
             file,
             packet,
@@ -24,16 +29,23 @@ impl<'f> Packets<'f> {
     }
 
     // The newest packet, behind the bytes that were left unread.
-    pub fn input(&self) -> &'f [u8] {
+    pub fn input(&self) -> &'f [u8]
+        ensures { result.now ≡ between self.now.file.now self.now.consumed self.now.end }
+    {
         jxl_slices::part(self.file, self.consumed, self.end)
     }
 
-    pub fn consume(&mut self, count: usize) {
+    // Counts bytes of the packets that were consumed.
+    pub fn consume(&mut self, count: usize)
+        ensures { self.new.consumed ≡ (self.old.consumed + count) % 2 ^ 64 }
+    {
         self.consumed = self.consumed.wrapping_add(count);
     }
 
     // Goes on to the next packet, the last of which ends with the file: whether there is one.
-    pub fn has_next(&mut self) -> bool {
+    pub fn has_next(&mut self) -> bool
+        ensures { result ≡ true → self.new.end ≡ min (self.old.end + self.old.packet) (length self.new.file.now) }
+    {
         if self.end == self.file.len() {
             return false;
         }

@@ -1,6 +1,9 @@
 // What feeding a file to the parser in packets shows, each behind the bytes that the feeds before left unread, as tokens of the stored lists.
 #![tactic(auto)]
 
+ghost use Rattle.std.specs.Prelude.{◌≡◌, ◌+◌, ◌%◌, ◌^◌, None, length};
+ghost use Rattle.jxl_slices.specs.Part.{between};
+
 use box_lines::Token;
 use jxl_container::{
     BitstreamKind, BoxRefusal, ContainerParser, FileEvent, FileRefusal, ParseEvent, StepResult,
@@ -56,7 +59,9 @@ pub fn is_repeated(refused: ContainerParser, input: &[u8], first: FileRefusal) -
 
 impl Feed {
     // The start of a feed: a record, nothing consumed, no answer yet.
-    pub fn new(alloc: Global, parser: ContainerParser) -> Feed {
+    pub fn new(alloc: Global, parser: ContainerParser) -> Feed
+        ensures { (result.parser ≡ parser) × (result.consumed ≡ 0) × (result.refusal ≡ None) }
+    {
         Feed {
             answer: String::new(alloc),
             parser,
@@ -68,12 +73,16 @@ impl Feed {
     }
 
     // The bytes consumed of the whole file, by this feed's own count.
-    pub fn total(&self) -> u64 {
+    pub fn total(&self) -> u64
+        ensures { result ≡ (self.now.from + self.now.consumed) % 2 ^ 64 }
+    {
         self.from.wrapping_add(self.consumed as u64)
     }
 
     // The bytes of the file that are not consumed.
-    pub fn unread<'f>(&self, file: &'f [u8]) -> &'f [u8] {
+    pub fn unread<'f>(&self, file: &'f [u8]) -> &'f [u8]
+        ensures { result.now ≡ between file.now self.now.consumed (length file.now) }
+    {
         part(file, self.consumed, file.len())
     }
 

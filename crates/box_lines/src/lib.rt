@@ -2,6 +2,8 @@
 // lists and that run the pieces.
 #![tactic(auto)]
 
+ghost use Rattle.std.specs.Prelude.{◌≡◌, ◌≤◌, true, IfOk, vec_len, string_bytes};
+
 use jxl_events::ParseEvent;
 use jxl_record::BitstreamKind;
 use jxl_refusals::BoxRefusal;
@@ -92,7 +94,9 @@ pub fn put(line: &mut String, token: Token) -> Result<(), AllocError> {
 }
 
 // Puts a mark where a rule that the lists do not spell out is not kept.
-pub fn hold(line: &mut String, is_kept: bool) -> Result<(), AllocError> {
+pub fn hold(line: &mut String, is_kept: bool) -> Result<(), AllocError>
+    ensures { is_kept ≡ true → string_bytes line.new ≡ string_bytes line.old }
+{
     if is_kept {
         return Ok(());
     }
@@ -108,6 +112,8 @@ fn byte(digits: &[u8]) -> u8 {
 }
 
 // The bytes that a text of hex tells, as far as a file of the lists goes.
-pub fn file(alloc: Global, hex: &[u8]) -> Result<Vec<u8>, AllocError> {
+pub fn file(alloc: Global, hex: &[u8]) -> Result<Vec<u8>, AllocError>
+    ensures { IfOk result (λ bytes. vec_len bytes ≤ 128) }
+{
     hex.chunks(2).take(FILE_MOST).map(byte).collect(alloc)
 }

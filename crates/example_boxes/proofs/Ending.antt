@@ -76,6 +76,8 @@ module _ (p q : ContainerParser) (s : List ℕ) {e : FileEvent} {c : ℕ} (h : t
   fits = omega (arith, ap consumed_of (by_rule (A.Shown q c e) (step_of p s) h), step_within p s)
 
   pub fewer : counted q (take (length s - c) (drop c s)) < counted p s
-  fewer = omega (arith,
-      one_less p q s e c (sym (by_rule (A.Shown q c e) (step_of p s) h)),
-      ap (counted q) (take_all (length s - c) (drop c s) (omega (arith, length-drop c s))))
+  fewer = omega (
+    arith,
+    one_less p q s e c (sym (by_rule (A.Shown q c e) (step_of p s) h)),
+    ap (counted q) (take_all (length s - c) (drop c s) (omega (arith, length-drop c s))),
+  )

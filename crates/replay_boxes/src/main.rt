@@ -4,7 +4,7 @@
 #![tactic(auto)]
 
 use box_lines::FILE_MOST;
-use replay_text::{Tally, lines, read_input, split_once};
+use replay_text::{Tally, lines, read_input, skip, split_once};
 use std::alloc::{AllocError, Global};
 use std::io;
 
@@ -59,14 +59,9 @@ fn agrees(
     Ok(is_end(feed.answer.as_bytes(), token))
 }
 
-// What stands behind the first two bytes of a line: the letter that tells what it is, and a space.
-fn behind_letter(line: &[u8]) -> &[u8] {
-    line.get(2..).unwrap_or(b"")
-}
-
 // The token of a file's end in its line `e`, as far as there is room for it with the file.
 fn token_of<'t>(line: &'t [u8], file: &[u8]) -> &'t [u8] {
-    let token = behind_letter(line);
+    let token = skip(line, 2);
     let room = FILE_MOST.saturating_sub(file.len());
     token.get(..room).unwrap_or(token)
 }
@@ -75,7 +70,7 @@ fn token_of<'t>(line: &'t [u8], file: &[u8]) -> &'t [u8] {
 fn cuts_and_events(line: &[u8]) -> (&[u8], &[u8]) {
     let (before, behind) = split_once(line, b'=').unwrap_or((line, b""));
     let cuts = before.split_last().map_or(before, |(_, cuts)| cuts);
-    (cuts, behind.get(1..).unwrap_or(b""))
+    (cuts, skip(behind, 1))
 }
 
 // Goes through the list, line by line: a new file, whose end is not told yet; what the end of the newest comes to; or a feeding of it,
@@ -90,7 +85,7 @@ fn main(rt: HostRuntime) -> io::Result<()> {
         tally.pass_line();
         match line {
             [b'f', ..] => {
-                file = box_lines::file(rt.alloc(), behind_letter(line))?;
+                file = box_lines::file(rt.alloc(), skip(line, 2))?;
                 token = b"";
             }
             [b'e', ..] => token = token_of(line, &file),
