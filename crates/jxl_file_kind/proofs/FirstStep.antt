@@ -115,3 +115,16 @@ by_tests false false false h = refl
 pub boxed_file : (s : List ℕ) → boxed (kind_of_file s) ≡ starts container_sig s
 unfolding signature_of
 boxed_file s = by_tests (starts codestream_sig s) (starts container_sig s) (or (starts s codestream_sig) (starts s container_sig)) (not_both s)
+
+-- so each kind tells whether the file starts so
+pub told_container : (s : List ℕ) → K.Container ≡ kind_of_file s → true ≡ starts container_sig s
+told_container s k = ap boxed k ∙ boxed_file s
+
+pub told_bare : (s : List ℕ) → K.BareCodestream ≡ kind_of_file s → false ≡ starts container_sig s
+told_bare s k = ap boxed k ∙ boxed_file s
+
+pub told_invalid : (s : List ℕ) → K.Invalid ≡ kind_of_file s → false ≡ starts container_sig s
+told_invalid s k = ap boxed k ∙ boxed_file s
+
+pub told_unknown : (s : List ℕ) → K.Unknown ≡ kind_of_file s → false ≡ starts container_sig s
+told_unknown s k = ap boxed k ∙ boxed_file s

@@ -18,6 +18,7 @@ pub fn kind_of_file(input: &[u8]) -> BitstreamKind
 }
 
 // Whether a file starts with a container's signature.
+#[tactic(auto, using(crate::proofs::FirstStep::told_container, crate::proofs::FirstStep::told_bare, crate::proofs::FirstStep::told_invalid, crate::proofs::FirstStep::told_unknown))]
 pub fn is_container(input: &[u8]) -> bool
     ensures { result ≡ starts container_sig input.now }
 {
