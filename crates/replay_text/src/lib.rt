@@ -41,7 +41,7 @@ pub fn skip(text: &[u8], count: usize) -> &[u8]
     text.get(count..).unwrap_or(b"")
 }
 
-// What a digit counts. Of the letters only the small ones are digits.
+// What a digit counts. Not `char::to_digit`, to which `A` to `F` are digits too: the lists have small letters alone.
 #[tactic(auto, unfolding(crate::specs::Numbers::digit))]
 pub fn digit_of(b: u8) -> Option<u8>
     ensures value { result ≡ digit b }
