@@ -1,7 +1,7 @@
 // The bytes that a reading of bits looks at. What they are as a number is in `jxl_bit_rules`.
 #![tactic(auto)]
 
-ghost use Rattle.std.specs.Prelude.{◌≡◌, ◌+◌, ◌*◌, ◌/◌, ◌%◌, ◌^◌, get_or, drop};
+ghost use Rattle.std.specs.Prelude.{◌≡◌, ◌/◌, ◌%◌, ◌^◌, get_or, drop};
 ghost use Rattle.jxl_bit_rules.specs.Bits.{number};
 
 // The byte at `i`; beyond the end, 0.
