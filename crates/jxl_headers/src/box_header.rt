@@ -1,5 +1,5 @@
 // One box header, after the Rust's container/box_header.rs.
-ghost use Rattle.std.specs.Prelude.{◌≡◌, ◌+◌, ◌≤◌, ◌<◌, get_or, length};
+ghost use Rattle.std.specs.Prelude.{◌≡◌, ◌+◌, ◌≤◌, get_or, length};
 ghost use Rattle.jxl_headers.specs.Bytes.{be32, be64};
 ghost use Rattle.jxl_headers.specs.Header.{extended, header_of, numbered, told_header};
 
@@ -39,7 +39,7 @@ pub struct ContainerBoxHeader {
     pub box_size: BytesLeft,
 }
 
-// Result of reading a box header.
+// Result of reading a box header. Not a Result: it has three cases, as the Rust's has them.
 #[derive(Clone, Copy, Debug, PartialEq, Eq)]
 pub enum HeaderParseResult {
     Done {

@@ -15,7 +15,8 @@ use jxl_headers::{BytesLeft, box_header};
 use jxl_record::{BoxParser, DetectState, JxlpIndexState};
 use jxl_refusals::BoxRefusal;
 
-// A step's answer. The next record and the bytes consumed come first in every case, so that the compiler copies no padding.
+// A step's answer. Not a Result: an event, WANT and a refusal are three cases, and each has the next record, which comes first with the
+// bytes consumed, so that the compiler copies no padding.
 #[derive(Clone, Copy, Debug, PartialEq, Eq)]
 pub enum BoxResult {
     Shown {
