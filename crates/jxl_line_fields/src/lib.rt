@@ -1,4 +1,6 @@
 // The fields of a line, each put into a lent buffer at a place if it fits there.
+// `out` and `at` stay apart here: the public functions are promised so (docs/PROMISES.md). jxl_listing makes a page of them.
+// Digits are put by hand, not by a Display: the promise is on each byte of the lent buffer, and no formatter writes into one.
 #![tactic(auto)]
 
 ghost use Rattle.std.specs.Prelude.{◌≡◌, [], ◌∷◌, ◌+◌, ◌/◌, ◌%◌, ◌≤◌, length};

@@ -18,27 +18,25 @@ fn list_file(rt: &(impl Files + Eprint), name: &str) {
     }
 }
 
-// Lists argument `i`, and answers whether there is one.
-fn list_arg(rt: &(impl Env + Files + Eprint), i: usize) -> bool {
-    let mut path = io::buffer();
-    let Ok(length) = rt.arg(i, &mut path) else {
-        return false;
-    };
-    io::write_all(STDOUT, &path[..length]);
+// Prints the name, and lists the file behind it. A name that is no text is told.
+fn list_named(rt: &(impl Files + Eprint), name: &[u8]) {
+    io::write_all(STDOUT, name);
     io::write_all(STDOUT, b":\n");
-    match str::from_utf8(&path[..length]) {
-        Ok(name) => list_file(rt, name),
+    match str::from_utf8(name) {
+        Ok(text) => list_file(rt, text),
         Err(error) => {
             let _ = eprintln!(rt; "samples_list: a name that is no text: {error}");
         }
     }
-    true
 }
 
+// By `arg`: `env::args` is an error where one name is no text, and here only that one is told.
 fn main(rt: HostRuntime) {
+    let mut path = io::buffer();
     for i in 1..usize::MAX {
-        if !list_arg(&rt, i) {
+        let Ok(length) = rt.arg(i, &mut path) else {
             break;
-        }
+        };
+        list_named(&rt, &path[..length]);
     }
 }
