@@ -1,7 +1,7 @@
 // What feeding a file to the parser in packets shows, each behind the bytes that the feeds before left unread, as tokens of the stored lists.
 #![tactic(auto)]
 
-ghost use Rattle.std.specs.Prelude.{◌≡◌, ◌+◌, ◌%◌, ◌^◌, None, length};
+ghost use Rattle.std.specs.Prelude.{◌≡◌, ◌+◌, ◌%◌, ◌^◌, None, true, length, string_bytes};
 ghost use Rattle.jxl_slices.specs.Part.{between};
 
 use box_lines::Token;
@@ -86,13 +86,17 @@ impl Feed {
         part(file, self.consumed, file.len())
     }
 
-    // Puts a token.
-    pub fn put(&mut self, token: Token) -> Result<(), AllocError> {
+    // Puts a token, which consumes nothing.
+    pub fn put(&mut self, token: Token) -> Result<(), AllocError>
+        ensures { self.new.consumed ≡ self.old.consumed }
+    {
         box_lines::put(&mut self.answer, token)
     }
 
-    // Puts a mark where a rule is not kept.
-    pub fn hold(&mut self, is_kept: bool) -> Result<(), AllocError> {
+    // Puts a mark where a rule is not kept; else the answer stays.
+    pub fn hold(&mut self, is_kept: bool) -> Result<(), AllocError>
+        ensures { is_kept ≡ true → string_bytes self.new.answer ≡ string_bytes self.old.answer }
+    {
         box_lines::hold(&mut self.answer, is_kept)
     }
 
