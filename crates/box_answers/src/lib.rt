@@ -220,3 +220,28 @@ pub fn whole(alloc: Global, file: &[u8], cuts: &[u8]) -> Result<Feed, AllocError
     }
     Ok(feed)
 }
+
+#[cfg(test)]
+mod tests {
+    use super::*;
+    use std::test::Fail;
+
+    // lines 7 and 10 of the stored list
+    #[test]
+    fn a_bare_file_comes_in_two_packets(rt: HostRuntime) -> Result<(), Fail> {
+        let feed = whole(rt.alloc(), b"\xff\x0a", b"1,1")?;
+        assert_eq!(rt; feed.answer.as_str(), "|0 Kb N C@0+2 |2");
+        Ok(())
+    }
+
+    #[test]
+    fn a_turn_shows_the_kind(rt: HostRuntime) -> Result<(), Fail> {
+        let mut feed = Feed::new(rt.alloc(), ContainerParser::new());
+        let shown = feed.turn(b"\xff\x0a", 2)?;
+        assert!(rt; shown);
+        feed.hold(false)?;
+        feed.put(Token::Nothing)?;
+        assert_eq!(rt; feed.answer.as_str(), "Kb ! -");
+        Ok(())
+    }
+}

@@ -82,3 +82,19 @@ pub fn end(feed: &mut Feed, unread: &[u8]) -> Result<EndResult, AllocError> {
     }
     Ok(ended)
 }
+
+#[cfg(test)]
+mod tests {
+    use super::*;
+    use box_answers::whole;
+    use std::test::Fail;
+
+    // lines 7 to 9 of the stored list
+    #[test]
+    fn a_bare_file_ends_with_nothing_owed(rt: HostRuntime) -> Result<(), Fail> {
+        let mut feed = whole(rt.alloc(), b"\xff\x0a", b"2")?;
+        end(&mut feed, b"")?;
+        assert_eq!(rt; feed.answer.as_str(), "Kb N C@0+2 |2 -");
+        Ok(())
+    }
+}

@@ -117,3 +117,27 @@ pub fn file(alloc: Global, hex: &[u8]) -> Result<Vec<u8>, AllocError>
 {
     hex.chunks(2).take(FILE_MOST).map(byte).collect(alloc)
 }
+
+#[cfg(test)]
+mod tests {
+    use super::*;
+    use std::test::Fail;
+
+    #[test]
+    fn tokens_are_parted_by_spaces(rt: HostRuntime) -> Result<(), Fail> {
+        let mut line = String::new(rt.alloc());
+        put(&mut line, Token::Nothing)?;
+        put(&mut line, Token::PacketEnd(12))?;
+        hold(&mut line, true)?;
+        hold(&mut line, false)?;
+        assert_eq!(rt; line.as_str(), "- |12 !");
+        Ok(())
+    }
+
+    #[test]
+    fn a_file_is_its_hex(rt: HostRuntime) -> Result<(), Fail> {
+        let bytes = file(rt.alloc(), b"ff0a5a")?;
+        assert_eq!(rt; bytes.as_slice(), [0xff, 0x0a, 0x5a].as_slice());
+        Ok(())
+    }
+}

@@ -215,3 +215,18 @@ impl Buffer {
         answer_text(alloc, answer)
     }
 }
+
+#[cfg(test)]
+mod tests {
+    use super::*;
+    use std::test::Fail;
+
+    // the first two lines of the stored list
+    #[test]
+    fn a_call_answers_as_the_rust(rt: HostRuntime) -> Result<(), Fail> {
+        let mut buffer = Buffer::from_line(rt.alloc(), b"n 32")?;
+        let answer = buffer.call(rt.alloc(), b"w c1 0+2 3+4 19+8 = 15 6")?;
+        assert_eq!(rt; answer.as_str(), "15 6");
+        Ok(())
+    }
+}
