@@ -1,7 +1,7 @@
 // What comes before every reading of bits and every move over them, and the place where it then stands. The rules are in `jxl_bit_rules`.
 #![tactic(auto)]
 
-ghost use Rattle.std.specs.Prelude.{◌≡◌, ◌-◌, ◌^◌, ◌≤◌, length};
+ghost use Rattle.std.specs.Prelude.{◌≡◌, ◌-◌, ◌^◌, ◌≤◌, min, length};
 ghost use Rattle.jxl_bit_rules.specs.Bits.{bits, end};
 ghost use Rattle.jxl_bit_rules.specs.Readers as F;
 ghost use Rattle.jxl_bit_rules.specs.Told.{told_moved};
@@ -58,26 +58,25 @@ impl<'a> Place<'a> {
         Ok(Place { bytes, at })
     }
 
-    // The `n` bits from here, those beyond the end as 0.
+    // The `n` bits from here, 32 at most, those beyond the end as 0.
     pub fn look(self, n: usize) -> u32
-        requires { n ≤ 32 }
-        ensures { result ≡ bits self.entry.bytes.now self.entry.at n }
+        ensures { result ≡ bits self.entry.bytes.now self.entry.at (min n 32) }
     {
-        look(self.bytes, self.at, n)
+        look(self.bytes, self.at, n.min(32))
     }
 
-    // A part of `n` bits, and the place after it.
+    // A part of `n` bits, 32 at most, and the place after it.
     #[tactic(auto, unfolding(jxl_bit_rules::specs::Readers::part))]
     pub fn read(self, n: usize) -> Result<(u32, Place<'a>), Refused>
-        requires { n ≤ 32 }
-        ensures { GoesOn self.entry.bytes (here (F.part n) self.entry) result }
+        ensures { GoesOn self.entry.bytes (here (F.part (min n 32)) self.entry) result }
     {
-        if n <= 8 * self.bytes.len() - self.at {
+        let most = n.min(32);
+        if most <= 8 * self.bytes.len() - self.at {
             let next = Place {
                 bytes: self.bytes,
-                at: self.at + n,
+                at: self.at + most,
             };
-            Ok((self.look(n), next))
+            Ok((look(self.bytes, self.at, most), next))
         } else {
             Err(Refused {
                 refusal: FieldRefusal::UnexpectedEof,
