@@ -9,6 +9,6 @@ use Rattle.jxl_payloads.specs.Told.{told}
 abbrev pub OneStep : Type 0
 OneStep = (p : BoxParser) (s : List ℕ) → OneAnswer (λ r. told r ≡ numbered (step_of p s))
 
--- the record that a step starts from is the one that it was given
+-- two records that are the one given are equal: it was said of a record made anew, and a record is copied now
 abbrev pub OneSame : Type 0
 OneSame = (p : BoxParser) → OneAnswer (λ r. r ≡ p)
