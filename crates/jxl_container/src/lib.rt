@@ -40,21 +40,14 @@ pub fn step(parser: ContainerParser, input: &[u8]) -> StepResult
             let header = newest(starts, consumed, total, header);
             let total = total + consumed as u64;
             StepResult::Shown {
-                next: ContainerParser {
-                    boxes: next,
-                    total,
-                    header,
-                },
+                next: ContainerParser::at(next, total, header),
                 consumed,
                 event: FileEvent { event, total },
             }
         }
         BoxResult::Want { next, consumed } => {
-            let next = ContainerParser {
-                boxes: next,
-                total: total + consumed as u64,
-                header: newest(starts, consumed, total, header),
-            };
+            let header = newest(starts, consumed, total, header);
+            let next = ContainerParser::at(next, total + consumed as u64, header);
             if n == input.len() {
                 return StepResult::Want { next, consumed };
             }
@@ -65,11 +58,8 @@ pub fn step(parser: ContainerParser, input: &[u8]) -> StepResult
             consumed,
             refusal,
         } => {
-            let next = ContainerParser {
-                boxes: next,
-                total: total + consumed as u64,
-                header: looked_at(starts, total, header),
-            };
+            let header = looked_at(starts, total, header);
+            let next = ContainerParser::at(next, total + consumed as u64, header);
             refused(refusal, next, consumed)
         }
     }

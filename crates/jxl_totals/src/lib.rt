@@ -39,6 +39,17 @@ impl ContainerParser {
         }
     }
 
+    // A record of these three.
+    pub fn at(boxes: BoxParser, total: u64, header: u64) -> Self
+        ensures { result ≡ counted boxes total header }
+    {
+        ContainerParser {
+            boxes,
+            total,
+            header,
+        }
+    }
+
     // The kind of bitstream: unknown before KIND, then KIND's.
     pub fn kind(self) -> BitstreamKind
         ensures { result ≡ kind_of self }
@@ -52,10 +63,7 @@ impl ContainerParser {
     {
         let kind = self.kind();
         let state = DetectState::Refused { kind, refusal };
-        ContainerParser {
-            boxes: BoxParser::at(state, self.boxes.jxlp),
-            total: self.total,
-            header: self.header,
-        }
+        let boxes = BoxParser::at(state, self.boxes.jxlp);
+        ContainerParser::at(boxes, self.total, self.header)
     }
 }
