@@ -103,7 +103,8 @@ pub fn hold(line: &mut String, is_kept: bool) -> Result<(), AllocError>
     put(line, Token::Broken)
 }
 
-// The byte that two digits of hex tell; 0 for one that stands alone.
+// The byte that two digits of hex tell; 0 for one that stands alone. Not field_lines's: there a letter that is no digit counts 0, here
+// it ends the number.
 fn byte(digits: &[u8]) -> u8 {
     match digits {
         [_, _] => (leading_number(digits, 16).0 & 0xff) as u8,

@@ -112,7 +112,8 @@ fn call_u32(s: &[u8], at: usize, words: &[u8]) -> Read<u32> {
     jxl_bitstream::read_u32(s, at, [a, b, c, d])
 }
 
-// The numbers of a list with commas; `-` is the empty one.
+// The numbers of a list with commas; `-` is the empty one. Split by hand, by what stands behind each number: a byte that is no comma
+// ends the list.
 fn numbers(alloc: Global, words: &[u8]) -> Result<Vec<u32>, AllocError> {
     let mut list = Vec::new(alloc);
     if words.starts_with(b"-") {

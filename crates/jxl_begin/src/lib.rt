@@ -51,7 +51,7 @@ impl<'a> Place<'a> {
 
     // What `begin` does, and the place that it leaves.
     #[tactic(auto, using(jxl_bit_rules::proofs::Parts::begun))]
-    pub fn new(bytes: &'a [u8], at: usize, wide: bool) -> Result<Place<'a>, Refused>
+    pub fn new(bytes: &'a [u8], at: usize, wide: bool) -> Result<Self, Refused>
         ensures { BeginsAt bytes.entry (F.begin wide bytes.now at) result }
     {
         let at = begin(bytes, at, wide)?;
@@ -67,7 +67,7 @@ impl<'a> Place<'a> {
 
     // A part of `n` bits, 32 at most, and the place after it.
     #[tactic(auto, unfolding(jxl_bit_rules::specs::Readers::part))]
-    pub fn read(self, n: usize) -> Result<(u32, Place<'a>), Refused>
+    pub fn read(self, n: usize) -> Result<(u32, Self), Refused>
         ensures { GoesOn self.entry.bytes (here (F.part (min n 32)) self.entry) result }
     {
         let most = n.min(32);

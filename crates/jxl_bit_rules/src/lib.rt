@@ -2,7 +2,7 @@
 // answers. No code: `jxl_bits` has it.
 #![tactic(auto)]
 
-#[derive(Clone, Copy, PartialEq, Eq)]
+#[derive(Clone, Copy, Debug, PartialEq, Eq)]
 pub enum FieldRefusal {
     UnexpectedEof,
     NonZeroPadding,
@@ -13,7 +13,7 @@ pub enum FieldRefusal {
 }
 
 // A refusal, and the position that it leaves the reader at.
-#[derive(Clone, Copy, PartialEq, Eq)]
+#[derive(Clone, Copy, Debug, PartialEq, Eq)]
 pub struct Refused {
     pub refusal: FieldRefusal,
     pub at: usize,

@@ -2,7 +2,7 @@
 // No code: `jxl_fields` has it.
 #![tactic(auto)]
 
-#[derive(Clone, Copy, PartialEq, Eq)]
+#[derive(Clone, Copy, Debug, PartialEq, Eq)]
 pub enum U32Specifier {
     Constant(u32),
     BitsOffset(u32, usize),

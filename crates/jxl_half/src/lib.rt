@@ -13,10 +13,11 @@ fn subnormal(sign: u32, m: u32) -> f32
     ensures { result ≡ of_bits binary32 (sign * 2 ^ 31 + magnitude 0 m) }
 {
     if m == 0 {
-        return f32::from_bits(sign * 0x8000_0000);
+        f32::from_bits(sign * 0x8000_0000)
+    } else {
+        let val = (1.0 / 16384.0) * (m as f32 / 1024.0);
+        if sign == 0 { val } else { -val }
     }
-    let val = (1.0 / 16384.0) * (m as f32 / 1024.0);
-    if sign == 0 { val } else { -val }
 }
 
 // The f32 that is the same number as an F16 code; exponent 31 is no number, and that is None.
@@ -25,15 +26,15 @@ pub fn widen(code: u16) -> Option<f32>
     ensures result_value { told result ≡ widened code }
     ensures exactly_widened { ExactlyWidened code (told result) }
 {
-    let v = code as u32;
+    let v = u32::from(code);
     let sign = v / 32768;
     let exponent = v / 1024 % 32;
     let mantissa = v % 1024;
     if exponent == 31 {
-        return None;
+        None
+    } else if exponent == 0 {
+        Some(subnormal(sign, mantissa))
+    } else {
+        Some(f32::from_bits(sign * 0x8000_0000 + (exponent + 112) * 0x80_0000 + mantissa * 0x2000))
     }
-    if exponent == 0 {
-        return Some(subnormal(sign, mantissa));
-    }
-    Some(f32::from_bits(sign * 0x8000_0000 + (exponent + 112) * 0x80_0000 + mantissa * 0x2000))
 }

@@ -21,7 +21,7 @@ pub struct Bitstream<'a> {
 
 impl<'a> Bitstream<'a> {
     // A reader of the slice, at its first bit.
-    pub fn new(bytes: &'a [u8]) -> Bitstream<'a>
+    pub fn new(bytes: &'a [u8]) -> Self
         ensures { Made bytes.entry result }
     {
         Bitstream { bytes, at: 0 }

@@ -19,7 +19,7 @@ pub fn split<T>(answer: Read<T>) -> (BitstreamResult<T>, usize)
     }
 }
 
-// The result of a move, and the position after it.
+// The result of a move, and the position after it. Beside `split`: as a `Read<()>` a move would carry a unit to every caller.
 pub fn split_move(answer: Moved) -> (BitstreamResult<()>, usize)
     ensures { result_at result.0 result.1 ≡ told_moved answer }
 {

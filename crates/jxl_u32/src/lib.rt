@@ -30,7 +30,7 @@ fn offset_of(d: U32Specifier) -> u32
     }
 }
 
-// The selector, and the choice that it names.
+// The selector, and the choice that it names. Two arrays and not one of pairs: `select_of` of jxl_field_rules takes the two lists.
 #[tactic(auto, using(jxl_bit_rules::proofs::Parts::given, jxl_field_rules::proofs::Choices::narrow), unfolding(jxl_field_rules::specs::Inside::select_of))]
 fn select(place: Place, widths: [usize; 4], offsets: [u32; 4]) -> Read<u32>
     requires { any_over widths ≡ false }

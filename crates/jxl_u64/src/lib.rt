@@ -20,7 +20,7 @@ fn last_chunk(place: Place, value: u64) -> Read<u64>
         return Ok((value, after.at));
     }
     let (x, next) = after.read(4)?;
-    Ok((value | (x as u64) << 60, next.at))
+    Ok((value | u64::from(x) << 60, next.at))
 }
 
 // While a 1 bit follows, 8 bits at 12, 20, 28, 36, 44, 52 in turn.
@@ -36,7 +36,7 @@ fn chunks(start: Place, first: u64) -> Read<u64>
             return Ok((value, after.at));
         }
         let (x, next) = after.read(8)?;
-        value |= (x as u64) << (12 + 8 * i);
+        value |= u64::from(x) << (12 + 8 * i);
         place = next;
     }
     last_chunk(place, value)
@@ -49,16 +49,20 @@ fn by_selector(place: Place, selector: u32) -> Read<u64>
 {
     if 2 < selector {
         let (first, next) = place.read(12)?;
-        return chunks(next, first as u64);
+        return chunks(next, u64::from(first));
     }
     let width = if selector == 2 {
         8
     } else {
         4 * (selector as usize)
     };
-    let offset = if selector == 2 { 17 } else { selector as u64 };
+    let offset = if selector == 2 {
+        17
+    } else {
+        u64::from(selector)
+    };
     let (x, next) = place.read(width)?;
-    Ok((offset + (x as u64), next.at))
+    Ok((offset + u64::from(x), next.at))
 }
 
 // `U64`: at most 73 bits.

@@ -4,8 +4,8 @@
 ghost use Rattle.std.specs.Prelude.{◌≡◌};
 ghost use Rattle.jxl_unpack.specs.UnpackSigned.{unpacked};
 
-// `UnpackSigned` of a `u32`. The Rust flips the bits unsigned and reinterprets the result; here the
-// flip, 0 or -1, is taken on the signed type, so that no cast loses anything.
+// `UnpackSigned` of a `u32`. The Rust flips the bits unsigned and reinterprets the result; here the flip, 0 or -1, is taken on the signed
+// type, as `flipped` of the theorem `Unpacks` has it.
 pub fn unpack_signed(x: u32) -> i32
     ensures { result ≡ unpacked x }
 {
@@ -15,8 +15,8 @@ pub fn unpack_signed(x: u32) -> i32
     (base as i32) ^ flip
 }
 
-// `UnpackSigned` of a `u64`. The narrow one is not said by it: that would do 64-bit work for 32 bits, and the cast back would need a
-// proof of its own that the number fits, where the two now share one law over the width, `Unpacks`.
+// `UnpackSigned` of a `u64`. Two functions and no generic: a trait with the shift and the signed type of each width would hold these two
+// bodies as its impls. They share one law over the width, `Unpacks`.
 pub fn unpack_signed_u64(x: u64) -> i64
     ensures { result ≡ unpacked x }
 {

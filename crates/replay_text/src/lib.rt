@@ -66,7 +66,8 @@ fn append_digit(value: u64, radix: u64, b: u8) -> Option<u64>
     value.checked_mul(radix)?.checked_add(digit)
 }
 
-// The number that a text begins with, of as many digits as are there and fit in 64 bits, and what stands behind it.
+// The number that a text begins with, of as many digits as are there and fit in 64 bits, and what stands behind it. The `while let` counts
+// no index: what is left is a slice.
 #[tactic(auto, unfolding(crate::specs::Numbers::number))]
 pub fn leading_number(text: &[u8], radix: u64) -> (u64, &[u8])
     ensures { (result.0, result.1.now) ≡ number radix text.now 0 }
@@ -140,8 +141,7 @@ impl Tally {
         }
         self.differ = self.differ.saturating_add(1);
         if self.differ <= 10 {
-            let line = self.lines;
-            println!(rt; "line {line} differs")?;
+            println!(rt; "line {} differs", self.lines)?;
         }
         Ok(())
     }
@@ -151,8 +151,10 @@ impl fmt::Display for Tally {
     ghost output = { λ t. Some (decimal t.compared ++ (codes " answers compared, " ++ (decimal t.differ ++ codes " differ"))) };
 
     fn fmt<W: fmt::Write>(&self, f: &mut fmt::Formatter<W>) -> fmt::Result {
-        let compared = self.compared;
-        let differ = self.differ;
-        write!(f, "{compared} answers compared, {differ} differ")
+        write!(
+            f,
+            "{} answers compared, {} differ",
+            self.compared, self.differ
+        )
     }
 }

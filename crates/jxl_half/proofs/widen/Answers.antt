@@ -1,5 +1,5 @@
 -- By the exponent. No answer names the number 31, so that the edit of it is refused for a fact.
-use Rattle.std.proofs.Common.{ℕ, ◌+◌, ◌*◌, ◌^◌, arith, ap, sym, ◌∙◌}
+use Rattle.std.proofs.Common.{◌≡◌, ℕ, ◌+◌, ◌*◌, ◌^◌, arith, ap, ◌∙◌}
 use Rattle.std.specs.Float.{binary32}
 use Rattle.std.specs.Float.Ieee.{of_bits}
 use borrow.Author.Tests.{ne_eqb}
@@ -12,17 +12,19 @@ pub returns-then-exponent-eq0 : goal.returns-then-exponent-eq0
 unfolding widened pattern
 returns-then-exponent-eq0 c =
     let v = c.args.code in
+    let zero : 0 ≡ exponent v = omega (arith, c.from-v.ensures) in
     let p = widened_exactly v c.ranges.code.fits (gives c.subnormal.result)
-    (rw (ne_eqb (exponent v) 31 (λ e. omega arith)) (ap gives (c.subnormal.ensures ∙ ap (λ (e : ℕ). of_bits binary32 (sign v * 2 ^ 31 + magnitude e (mantissa v))) (sym c.if-exponent-eq0.true)))) in
+    (rw (ne_eqb (exponent v) 31 (λ e. omega arith)) (ap gives (c.subnormal.ensures ∙ ap (λ (n : ℕ). of_bits binary32 (sign n * 2 ^ 31 + magnitude 0 (mantissa n))) c.from-v.ensures ∙ ap (λ (e : ℕ). of_bits binary32 (sign v * 2 ^ 31 + magnitude e (mantissa v))) zero))) in
     record { result_value = p.0; exactly_widened = p.1 }
 
 pub float_from_bits-result : goal.float_from_bits-result
 float_from_bits-result c = no_nan _ (λ e. omega arith)
 
-pub returns : goal.returns
+pub returns-else-exponent-eq0 : goal.returns-else-exponent-eq0
 unfolding widened pattern
-returns c =
+returns-else-exponent-eq0 c =
     let v = c.args.code in
-    let p = widened_exactly v c.ranges.code.fits (gives (of_bits binary32 (sign v * 2 ^ 31 + (exponent v + 112) * 2 ^ 23 + mantissa v * 2 ^ 13)))
-    (rw (ne_eqb (exponent v) 31 (λ e. omega arith)) (ap (λ b. gives (of_bits binary32 b)) (omega (arith, magnitude_above (exponent v) (mantissa v) c.if-exponent-eq0.false)))) in
+    let n = c.from-v.result in
+    let p = widened_exactly v c.ranges.code.fits (gives (of_bits binary32 (sign n * 2 ^ 31 + (exponent n + 112) * 2 ^ 23 + mantissa n * 2 ^ 13)))
+    (rw (ne_eqb (exponent v) 31 (λ e. omega arith)) (ap (λ b. gives (of_bits binary32 b)) (omega (arith, c.from-v.ensures, magnitude_above (exponent v) (mantissa v) (λ e. omega (arith, c.from-v.ensures)))))) in
     record { result_value = p.0; exactly_widened = p.1 }

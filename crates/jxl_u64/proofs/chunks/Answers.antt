@@ -38,9 +38,9 @@ loop-i-preserved c =
     let up : 8 + (12 + 8 * l.i) ≡ 12 + 8 * (l.i + 1) = omega arith in
     record {
       same = here ∙ l.invariant.same;
-      below = rw (at, ← up) (placed_below l.value x 8 (12 + 8 * l.i) l.invariant.below g.below);
+      below = rw (c.from.ensures, at, ← up) (placed_below l.value x 8 (12 + 8 * l.i) l.invariant.below g.below);
       rest =
-          rw (at, here)
+          rw (c.from.ensures, at, here)
           (sym (more l.value s l.place.at _ _ c.in_ok-flag.ensures.1 (12 + 8 * l.i) (drop (l.i + 1) places) x next.at c.if-flag-ne1.false eight)
           ∙ ap (λ ps. chunks ps l.value s l.place.at) (sym (place l.i c.loop-i-test.true)) ∙ l.invariant.rest);
     }

@@ -9,4 +9,4 @@ returns c =
     let s = c.args.place.bytes.now in
     let four = rw c.in_ok-flag.ensures.0 at c.in_ok-x.ensures.1 in
     let g = given 4 s _ _ _ four in
-    rw (last c.args.value s c.args.place.at _ _ c.in_ok-flag.ensures.1 _ _ c.if-flag-ne1.false four, placed c.args.value c.in_ok-x.x 4 60 c.requires g.below (lit≤ tt))
+    rw (c.from.ensures, last c.args.value s c.args.place.at _ _ c.in_ok-flag.ensures.1 _ _ c.if-flag-ne1.false four, placed c.args.value c.in_ok-x.x 4 60 c.requires g.below (lit≤ tt))
