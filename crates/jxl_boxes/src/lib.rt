@@ -106,7 +106,7 @@ fn header_step(jxlp: JxlpIndexState, s: &[u8]) -> BoxResult
     }
 }
 
-// The index awaited; 0 where no `jxlp` is open.
+// The index awaited; 0 where no `jxlp` is open. Not an Option: it is `awaited` of jxl_grammar, whose record with none is refused before.
 fn awaited(jxlp: JxlpIndexState) -> u32
     ensures { result ≡ Spec.awaited jxlp }
 {

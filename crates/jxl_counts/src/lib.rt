@@ -13,8 +13,9 @@ use jxl_marks::{is_closed, place};
 use jxl_refusals::BoxRefusal;
 use jxl_totals::{ContainerParser, FileRefusal};
 
-// A step's answer. Not a Result: to want more is neither. The next record and the bytes consumed come first in every case, so that the
-// compiler copies no padding.
+// A step's answer. Not a Result: to want more is neither. Not a struct with an answer beside, as EndResult: one pattern names what a caller
+// needs of a case, the record, the bytes consumed and the event, where that form takes a pattern inside another and a second type. The
+// record and the bytes consumed come first in every case, so that the compiler copies no padding.
 #[derive(Clone, Copy)]
 pub enum StepResult {
     Shown {

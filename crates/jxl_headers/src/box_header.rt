@@ -39,7 +39,8 @@ pub struct ContainerBoxHeader {
     pub box_size: BytesLeft,
 }
 
-// Result of reading a box header. Not a Result: it has three cases, as the Rust's has them.
+// Result of reading a box header: the Rust's two cases, and the refusal, which the Rust has in a Result around them. Not a Result: a step
+// has one arm for each of the three, and an enum inside a Result would be no plainer.
 #[derive(Clone, Copy, Debug, PartialEq, Eq)]
 pub enum HeaderParseResult {
     Done {

@@ -1,5 +1,6 @@
-// The marks that counting sets: how much of the input is there, the newest header, and the place that a refusal names. Numbers alone; the
-// record and the answer that carry them are jxl_counts.
+// The marks that counting sets: how much of the input is there, the newest header, and the place that a refusal names. Numbers alone: the
+// record that carries them is made by jxl_container, the answer by jxl_counts. A total and a header come apart, not as one struct:
+// docs/PROMISES.md promises these functions so.
 #![tactic(auto)]
 
 ghost use Rattle.std.specs.Prelude.{◌≡◌, ◌-◌, min, ltb};

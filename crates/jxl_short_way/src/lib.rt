@@ -19,7 +19,7 @@ fn within(total: u64, n: usize) -> bool
     total.saturating_add(n as u64) <= 0x7fff_ffff_ffff_ffff
 }
 
-// The rules' record behind `n` bytes inside a codestream, and the part held then; none with an event to tell first, or with nothing left
+// The record behind `n` bytes inside a codestream, and the part held then; none with an event to tell first, or with nothing left
 // behind the bytes.
 fn way_behind(parser: ContainerParser, at: usize, n: usize) -> Option<(ContainerParser, Joiner)>
     requires { (parser.total + n < 2 ^ 64) × (at ≤ parser.total) }
