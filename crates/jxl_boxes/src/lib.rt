@@ -157,7 +157,7 @@ fn state_step(p: BoxParser, s: &[u8]) -> BoxResult
 pub fn step(parser: BoxParser, input: &[u8]) -> BoxResult
     ensures { told result ≡ numbered (Spec.step_of parser input.now) }
 {
-    if input.len() == 0 {
+    if input.is_empty() {
         return empty_step(parser);
     }
     if is_impossible(parser) {

@@ -44,7 +44,7 @@ pub struct Payload<'a> {
     pub at: usize,
 }
 
-impl<'a> Payload<'a> {
+impl Payload<'_> {
     // Whether fewer than 4 bytes of the input stand behind its first `at`. The same tests as `be32_at` makes, so it makes none behind them.
     pub fn is_short(self) -> bool
         ensures { result ≡ ltb (length self.entry.input.now - self.entry.at) 4 }
