@@ -10,7 +10,7 @@ use jxl_container::{BitstreamKind, ContainerParser, FileEvent, FileRefusal, Step
 
 // A step's answer without the parser. Not `StepResult` over a parameter for the record: with a lent parser there is none to tell, and a
 // unit in its place would be no plainer. Not a struct with an answer beside, as EndResult: each case is that of StepResult, by one pattern.
-#[derive(Clone, Copy)]
+#[derive(Clone, Copy, Debug, PartialEq, Eq)]
 pub enum Fed {
     Shown {
         event: FileEvent,
