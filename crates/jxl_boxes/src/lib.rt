@@ -106,7 +106,7 @@ fn header_step(jxlp: JxlpIndexState, s: &[u8]) -> BoxResult
     }
 }
 
-// The index awaited; 0 where no `jxlp` is open.
+// The index awaited; 0 where no `jxlp` is open. Not an Option: it is `awaited` of jxl_grammar, whose record with none is refused before.
 fn awaited(jxlp: JxlpIndexState) -> u32
     ensures { result ≡ Spec.awaited jxlp }
 {
@@ -157,7 +157,7 @@ fn state_step(p: BoxParser, s: &[u8]) -> BoxResult
 pub fn step(parser: BoxParser, input: &[u8]) -> BoxResult
     ensures { told result ≡ numbered (Spec.step_of parser input.now) }
 {
-    if input.len() == 0 {
+    if input.is_empty() {
         return empty_step(parser);
     }
     if is_impossible(parser) {

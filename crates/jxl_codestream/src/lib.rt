@@ -45,22 +45,19 @@ fn code_part(
             next: in_codestream(kind, BytesLeft::ToEnd, false, jxlp),
             consumed: at + n,
         },
-        BytesLeft::Bytes(m) => {
-            if m <= n as u64 {
-                let len = m as usize;
-                BoxResult::Shown {
-                    event: ParseEvent::Codestream { at, len },
-                    next: BoxParser::at(DetectState::WaitingBoxHeader, jxlp),
-                    consumed: at + len,
-                }
-            } else {
-                BoxResult::Shown {
-                    event: ParseEvent::Codestream { at, len: n },
-                    next: in_codestream(kind, BytesLeft::Bytes(m - n as u64), false, jxlp),
-                    consumed: at + n,
-                }
+        BytesLeft::Bytes(m) if m <= n as u64 => {
+            let len = m as usize;
+            BoxResult::Shown {
+                event: ParseEvent::Codestream { at, len },
+                next: BoxParser::at(DetectState::WaitingBoxHeader, jxlp),
+                consumed: at + len,
             }
         }
+        BytesLeft::Bytes(m) => BoxResult::Shown {
+            event: ParseEvent::Codestream { at, len: n },
+            next: in_codestream(kind, BytesLeft::Bytes(m - n as u64), false, jxlp),
+            consumed: at + n,
+        },
     }
 }
 

@@ -26,9 +26,11 @@ pub use jxl_totals::{ContainerParser, FileRefusal};
 pub fn step(parser: ContainerParser, input: &[u8]) -> StepResult
     ensures { told result ≡ numbered (Spec.step_of parser input.now) }
 {
-    let boxes = parser.boxes;
-    let total = parser.total;
-    let header = parser.header;
+    let ContainerParser {
+        boxes,
+        total,
+        header,
+    } = parser;
     let n = visible(total, input.len());
     let starts = at_header(boxes);
     match jxl_boxes::step(boxes, &input[..n]) {
@@ -49,9 +51,10 @@ pub fn step(parser: ContainerParser, input: &[u8]) -> StepResult
             let header = newest(starts, consumed, total, header);
             let next = ContainerParser::at(next, total + consumed as u64, header);
             if n == input.len() {
-                return StepResult::Want { next, consumed };
+                StepResult::Want { next, consumed }
+            } else {
+                limited(next, consumed)
             }
-            limited(next, consumed)
         }
         BoxResult::Refused {
             next,

@@ -9,13 +9,14 @@ ghost use Rattle.jxl_totals.specs.Step as Spec;
 ghost use Rattle.jxl_counts.specs.Told.{told};
 
 use jxl_events::FileEvent;
-use jxl_marks::{is_closed, place};
+use jxl_marks::{is_closed, refusal_of};
 use jxl_refusals::BoxRefusal;
 use jxl_totals::{ContainerParser, FileRefusal};
 
-// A step's answer. Not a Result: to want more is neither. The next record and the bytes consumed come first in every case, so that the
-// compiler copies no padding.
-#[derive(Clone, Copy)]
+// A step's answer. Not a Result: to want more is neither. Not a struct with an answer beside, as EndResult: one pattern names what a caller
+// needs of a case, the record, the bytes consumed and the event, where that form takes a pattern inside another and a second type. The
+// record and the bytes consumed come first in every case, so that the compiler copies no padding.
+#[derive(Clone, Copy, Debug, PartialEq, Eq)]
 pub enum StepResult {
     Shown {
         next: ContainerParser,
@@ -46,15 +47,10 @@ pub fn refused(rule: BoxRefusal, next: ContainerParser, consumed: usize) -> Step
     if is_closed(rule) {
         StepResult::Closed { next, consumed }
     } else {
-        let total = next.total;
         StepResult::Refused {
             next,
             consumed,
-            refusal: FileRefusal {
-                rule,
-                total,
-                place: place(rule, total, next.header),
-            },
+            refusal: refusal_of(rule, next),
         }
     }
 }

@@ -8,14 +8,14 @@ ghost use Rattle.jxl_owed.specs.Told.{told_close};
 ghost use Rattle.jxl_end.specs.Told.{told_end};
 
 use jxl_events::FileEvent;
-use jxl_marks::{is_closed, place};
+use jxl_marks::{is_closed, refusal_of};
 use jxl_owed::{Close, close_of};
 use jxl_record::DetectState;
 use jxl_refusals::BoxRefusal;
 use jxl_totals::{ContainerParser, FileRefusal};
 
 // An end call's answer: DONE, with the event still owed, if any; or a refusal. Either way with the record that the call leaves.
-#[derive(Clone, Copy)]
+#[derive(Clone, Copy, Debug, PartialEq, Eq)]
 pub struct EndResult {
     pub next: ContainerParser,
     pub answer: Result<Option<FileEvent>, FileRefusal>,
@@ -29,11 +29,7 @@ fn closing(p: ContainerParser, close: Close) -> EndResult
     match close {
         Close::Missing => EndResult {
             next: p.stopped(BoxRefusal::CutShort),
-            answer: Err(FileRefusal {
-                rule: BoxRefusal::CutShort,
-                total,
-                place: total,
-            }),
+            answer: Err(refusal_of(BoxRefusal::CutShort, p)),
         },
         Close::Owes(event) => EndResult {
             next: p.stopped(BoxRefusal::Closed),
@@ -50,31 +46,12 @@ fn closing(p: ContainerParser, close: Close) -> EndResult
 fn again(rule: BoxRefusal, p: ContainerParser) -> EndResult
     ensures { told_end result ≡ Spec.numbered_end (Spec.again rule p) }
 {
-    if is_closed(rule) {
-        return EndResult {
-            next: p,
-            answer: Ok(None),
-        };
-    }
-    let total = p.total;
-    EndResult {
-        next: p,
-        answer: Err(FileRefusal {
-            rule,
-            total,
-            place: place(rule, total, p.header),
-        }),
-    }
-}
-
-// The answer by the state of the rules on boxes.
-fn end_in(state: DetectState, p: ContainerParser, unread: &[u8]) -> EndResult
-    ensures { told_end result ≡ Spec.numbered_end (Spec.end_in state p unread.now) }
-{
-    match state {
-        DetectState::Refused { refusal, .. } => again(refusal, p),
-        _ => closing(p, close_of(p.boxes, unread)),
-    }
+    let answer = if is_closed(rule) {
+        Ok(None)
+    } else {
+        Err(refusal_of(rule, p))
+    };
+    EndResult { next: p, answer }
 }
 
 // The end of the file, with the bytes of it that were fed and are unread.
@@ -82,5 +59,8 @@ fn end_in(state: DetectState, p: ContainerParser, unread: &[u8]) -> EndResult
 pub fn end(parser: ContainerParser, unread: &[u8]) -> EndResult
     ensures { told_end result ≡ Spec.numbered_end (Spec.end_of parser unread.now) }
 {
-    end_in(parser.boxes.state, parser, unread)
+    match parser.boxes.state {
+        DetectState::Refused { refusal, .. } => again(refusal, parser),
+        _ => closing(parser, close_of(parser.boxes, unread)),
+    }
 }

@@ -52,8 +52,8 @@ pub fn payload(s: &[u8], event: ParseEvent) -> &[u8]
     }
 }
 
-// The place of a payload of `len` bytes that ends at `total`; 0 if it is longer. Twice, here and as `less` of jxl_parts: the edits
-// place_is_the_total and part_counted_from_the_start each change one of the two.
+// The place of a payload of `len` bytes that ends at `total`; 0 if it is longer. `less` of jxl_parts counts the same: shared, this line
+// would be a public function with a promise, a law and an edit of its own, which is no plainer.
 fn place(total: u64, len: usize) -> usize
     ensures { result ≡ total - len }
 {

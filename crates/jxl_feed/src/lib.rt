@@ -9,8 +9,8 @@ ghost use Rattle.jxl_feed.specs.Fed.{told_fed};
 use jxl_container::{BitstreamKind, ContainerParser, FileEvent, FileRefusal, StepResult};
 
 // A step's answer without the parser. Not `StepResult` over a parameter for the record: with a lent parser there is none to tell, and a
-// unit in its place would be no plainer.
-#[derive(Clone, Copy)]
+// unit in its place would be no plainer. Not a struct with an answer beside, as EndResult: each case is that of StepResult, by one pattern.
+#[derive(Clone, Copy, Debug, PartialEq, Eq)]
 pub enum Fed {
     Shown {
         event: FileEvent,

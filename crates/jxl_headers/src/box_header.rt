@@ -1,7 +1,7 @@
 // One box header, after the Rust's container/box_header.rs.
 ghost use Rattle.std.specs.Prelude.{◌≡◌, ◌+◌, ◌≤◌, get_or, length};
 ghost use Rattle.jxl_headers.specs.Bytes.{be32, be64};
-ghost use Rattle.jxl_headers.specs.Header.{extended, header_of, numbered, told_header};
+ghost use Rattle.jxl_headers.specs.Header.{extended, header_of, numbered, reads, told_header};
 
 use crate::BytesLeft;
 use jxl_refusals::BoxRefusal;
@@ -39,7 +39,8 @@ pub struct ContainerBoxHeader {
     pub box_size: BytesLeft,
 }
 
-// Result of reading a box header. Not a Result: it has three cases, as the Rust's has them.
+// Result of reading a box header: the Rust's two cases, and the refusal, which the Rust has in a Result around them. Not a Result: a step
+// has one arm for each of the three, and an enum inside a Result would be no plainer.
 #[derive(Clone, Copy, Debug, PartialEq, Eq)]
 pub enum HeaderParseResult {
     Done {
@@ -71,17 +72,16 @@ pub fn be32_at(s: &[u8], at: usize) -> u32
     ensures { result ≡ be32 s.now at }
 {
     let n = s.len();
-    if 4 <= n {
-        if at <= n - 4 {
-            return be32_there(s, at);
-        }
+    if 4 <= n && at <= n - 4 {
+        be32_there(s, at)
+    } else {
+        u32::from_be_bytes([
+            byte_behind(s, at, 0),
+            byte_behind(s, at, 1),
+            byte_behind(s, at, 2),
+            byte_behind(s, at, 3),
+        ])
     }
-    u32::from_be_bytes([
-        byte_behind(s, at, 0),
-        byte_behind(s, at, 1),
-        byte_behind(s, at, 2),
-        byte_behind(s, at, 3),
-    ])
 }
 
 // The 8 bytes at `at`, the first the highest.
@@ -115,6 +115,20 @@ fn parse_extended(s: &[u8]) -> HeaderParseResult
     }
 }
 
+// A header of 8 bytes whose payload reaches so far.
+fn parsed(s: &[u8], box_size: BytesLeft) -> HeaderParseResult
+    requires { 8 ≤ length s.now }
+    ensures { told_header result ≡ reads (be32 s.now 4) box_size 8 }
+{
+    HeaderParseResult::Done {
+        header: ContainerBoxHeader {
+            ty: be32_there(s, 4),
+            box_size,
+        },
+        header_size: 8,
+    }
+}
+
 // The header at the front of `s`.
 #[tactic(auto, unfolding(crate::specs::Header::header_of))]
 pub fn parse_header(s: &[u8]) -> HeaderParseResult
@@ -123,28 +137,10 @@ pub fn parse_header(s: &[u8]) -> HeaderParseResult
     if s.len() < 8 {
         return HeaderParseResult::NeedMoreData;
     }
-    let size = be32_there(s, 0);
-    if size == 1 {
-        return parse_extended(s);
-    }
-    let ty = be32_there(s, 4);
-    if size == 0 {
-        return HeaderParseResult::Done {
-            header: ContainerBoxHeader {
-                ty,
-                box_size: BytesLeft::ToEnd,
-            },
-            header_size: 8,
-        };
-    }
-    if size < 8 {
-        return HeaderParseResult::Refused(BoxRefusal::ShortSize);
-    }
-    HeaderParseResult::Done {
-        header: ContainerBoxHeader {
-            ty,
-            box_size: BytesLeft::Bytes((size - 8) as u64),
-        },
-        header_size: 8,
+    match be32_there(s, 0) {
+        0 => parsed(s, BytesLeft::ToEnd),
+        1 => parse_extended(s),
+        2..=7 => HeaderParseResult::Refused(BoxRefusal::ShortSize),
+        size => parsed(s, BytesLeft::Bytes(u64::from(size - 8))),
     }
 }

@@ -9,13 +9,13 @@ use jxl_parts::{joins, reaching};
 
 // Joins payload parts that lie end to end. It takes the parser's events one at a time, gives each its place in the file, and holds
 // the newest, if any.
-#[derive(Clone, Copy)]
+#[derive(Clone, Copy, Debug, PartialEq, Eq)]
 pub struct Joiner {
     pub held: Option<FileEvent>,
 }
 
 // What adding an event hands back, if anything, and the joiner then.
-#[derive(Clone, Copy)]
+#[derive(Clone, Copy, Debug, PartialEq, Eq)]
 pub struct Added {
     pub out: Option<FileEvent>,
     pub next: Joiner,
@@ -35,17 +35,16 @@ fn holding(out: Option<FileEvent>, event: FileEvent) -> Added
 fn put(held: FileEvent, event: FileEvent) -> Added
     ensures { result ≡ putting held event }
 {
-    let first = held.event;
-    let second = event.event;
     let total = event.total;
-    if joins(first, second) {
+    if joins(held.event, event.event) {
         let whole = FileEvent {
-            event: reaching(total, first),
+            event: reaching(total, held.event),
             total,
         };
-        return holding(None, whole);
+        holding(None, whole)
+    } else {
+        holding(Some(held), event)
     }
-    holding(Some(held), event)
 }
 
 impl Joiner {

@@ -13,7 +13,7 @@ use jxl_long_way::turn_from;
 pub use jxl_list_rules::AfterTurn;
 
 // One turn: the lines of the input's events, joined across turns, at the front of `out`. The input is the bytes left unread
-// and what was read behind them.
+// and what was read behind them. The record and the joiner come apart, not as one struct: README and docs/PROMISES.md promise `turn` so.
 pub fn turn(parser: ContainerParser, joiner: Joiner, input: &[u8], out: &mut [u8]) -> AfterTurn
     ensures { Told result out.new out.old (turn_of input.now (length out.old) parser joiner.held) }
 {

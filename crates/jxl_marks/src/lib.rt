@@ -1,5 +1,6 @@
-// The marks that counting sets: how much of the input is there, the newest header, and the place that a refusal names. Numbers alone; the
-// record and the answer that carry them are jxl_counts.
+// The marks that counting sets: how much of the input is there, the newest header, and the place that a refusal names. Numbers alone: the
+// record that carries them is made by jxl_container, the answer by jxl_counts. A total and a header come apart, not as one struct:
+// docs/PROMISES.md promises these functions so.
 #![tactic(auto)]
 
 ghost use Rattle.std.specs.Prelude.{◌≡◌, ◌-◌, min, ltb};
@@ -9,6 +10,10 @@ ghost use Rattle.jxl_totals.specs.Step as Spec;
 
 use jxl_record::{BoxParser, DetectState};
 use jxl_refusals::BoxRefusal;
+use jxl_totals::{ContainerParser, FileRefusal};
+
+// Files are limited to 2^63 - 1 bytes.
+pub const LIMIT: u64 = 0x7fff_ffff_ffff_ffff;
 
 // How many of `n` bytes of input are there. Far from the limit, where every file is, two quick tests tell; without them a step takes up
 // to a fifth longer.
@@ -18,7 +23,7 @@ pub fn visible(total: u64, n: usize) -> usize
     if n <= 0x7fff_ffff && total <= 0x7fff_ffff_0000_0000 {
         return n;
     }
-    let room = 0x7fff_ffff_ffff_ffff_u64.saturating_sub(total);
+    let room = LIMIT.saturating_sub(total);
     n.min(room as usize)
 }
 
@@ -33,7 +38,7 @@ pub fn at_header(p: BoxParser) -> bool
 pub fn newest(starts: bool, n: usize, total: u64, header: u64) -> u64
     ensures { result ≡ if (and starts (ltb 0 n)) total header }
 {
-    if starts && 0 < n { total } else { header }
+    looked_at(starts && 0 < n, total, header)
 }
 
 // The newest header behind a step that was refused: it was looked at, though nothing of it is consumed.
@@ -51,6 +56,17 @@ pub fn place(rule: BoxRefusal, total: u64, header: u64) -> u64
         BoxRefusal::ImpossibleRecord => total,
         BoxRefusal::StreamLimit | BoxRefusal::CutShort | BoxRefusal::Closed => total,
         _ => header,
+    }
+}
+
+// The refusal by a rule that a record tells: the bytes consumed then, and the place that it names.
+pub fn refusal_of(rule: BoxRefusal, p: ContainerParser) -> FileRefusal
+    ensures { result ≡ Spec.refusal_of rule p }
+{
+    FileRefusal {
+        rule,
+        total: p.total,
+        place: place(rule, p.total, p.header),
     }
 }
 

@@ -56,7 +56,7 @@ pub fn reaching(total: u64, event: ParseEvent) -> ParseEvent
     }
 }
 
-// What is left of `total` behind its first `at`; none if there are fewer. Twice, here and as `place` of jxl_events, which says why.
+// What is left of `total` behind its first `at`; none if there are fewer. The same count as `place` of jxl_events, which says why it is twice.
 fn less(total: u64, at: usize) -> usize
     ensures { result ≡ total - at }
 {

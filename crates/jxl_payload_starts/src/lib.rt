@@ -52,7 +52,7 @@ pub fn index_step(i: u32, payload: Payload<'_>) -> BoxResult
     }
     let refusal = BoxRefusal::WrongIndex {
         found,
-        expected: i as u64,
+        expected: u64::from(i),
     };
     refuse(refusal, waiting, at + 4)
 }

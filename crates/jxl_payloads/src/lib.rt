@@ -1,4 +1,4 @@
-// What a step answers, after the Rust's container/parse.rs; a refusal; and one step inside a side box.
+// What a step answers, after the Rust's container/parse.rs; a payload where a step meets it; a refusal; and one step inside a side box.
 #![tactic(auto)]
 
 ghost use Rattle.std.specs.Prelude.{◌≡◌, ◌-◌, ltb, length};
@@ -16,7 +16,8 @@ use jxl_record::{BoxParser, DetectState, JxlpIndexState};
 use jxl_refusals::BoxRefusal;
 
 // A step's answer. Not a Result: an event, WANT and a refusal are three cases, and each has the next record, which comes first with the
-// bytes consumed, so that the compiler copies no padding.
+// bytes consumed, so that the compiler copies no padding. Beside StepResult of jxl_counts: its record, event and refusal are the rules' own,
+// not counted yet, and it has no Closed.
 #[derive(Clone, Copy, Debug, PartialEq, Eq)]
 pub enum BoxResult {
     Shown {
@@ -43,7 +44,7 @@ pub struct Payload<'a> {
     pub at: usize,
 }
 
-impl<'a> Payload<'a> {
+impl Payload<'_> {
     // Whether fewer than 4 bytes of the input stand behind its first `at`. The same tests as `be32_at` makes, so it makes none behind them.
     pub fn is_short(self) -> bool
         ensures { result ≡ ltb (length self.entry.input.now - self.entry.at) 4 }

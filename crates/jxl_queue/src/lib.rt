@@ -4,7 +4,7 @@
 ghost use Rattle.std.specs.Prelude.{◌≡◌};
 ghost use Rattle.jxl_queue.specs.Queue.{saturated, most_events};
 
-// The sum, at most the largest number of 64 bits.
+// The sum, at most the largest number of 64 bits. It stays for its promise (`OneSaturatingSum`); the code here uses the library's own.
 pub fn saturating_sum(a: usize, b: usize) -> usize
     ensures { result ≡ saturated a b }
 {

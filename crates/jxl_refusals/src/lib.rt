@@ -40,7 +40,7 @@ pub enum BoxRefusal {
 }
 
 impl BoxRefusal {
-    // The refusal's number.
+    // The refusal's number. A method and no From: README and `OneNumber` promise it by this name, and `u32::from` would not say what it tells.
     pub fn number(self) -> u32
         ensures { result ≡ number_of (why self) }
     {

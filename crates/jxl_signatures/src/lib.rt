@@ -27,16 +27,12 @@ pub fn which_signature(s: &[u8]) -> Signature
     ensures { result ≡ signature_of s.now }
 {
     if s.starts_with(&CODESTREAM_SIG) {
-        return Signature::Bare;
+        Signature::Bare
+    } else if s.starts_with(&CONTAINER_SIG) {
+        Signature::Container
+    } else if CODESTREAM_SIG.starts_with(s) || CONTAINER_SIG.starts_with(s) {
+        Signature::TooShort
+    } else {
+        Signature::Neither
     }
-    if s.starts_with(&CONTAINER_SIG) {
-        return Signature::Container;
-    }
-    if CODESTREAM_SIG.starts_with(s) {
-        return Signature::TooShort;
-    }
-    if CONTAINER_SIG.starts_with(s) {
-        return Signature::TooShort;
-    }
-    Signature::Neither
 }
