@@ -9,13 +9,13 @@ use jxl_parts::{joins, reaching};
 
 // Joins payload parts that lie end to end. It takes the parser's events one at a time, gives each its place in the file, and holds
 // the newest, if any.
-#[derive(Clone, Copy)]
+#[derive(Clone, Copy, Debug, PartialEq, Eq)]
 pub struct Joiner {
     pub held: Option<FileEvent>,
 }
 
 // What adding an event hands back, if anything, and the joiner then.
-#[derive(Clone, Copy)]
+#[derive(Clone, Copy, Debug, PartialEq, Eq)]
 pub struct Added {
     pub out: Option<FileEvent>,
     pub next: Joiner,
