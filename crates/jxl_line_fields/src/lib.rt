@@ -49,8 +49,8 @@ fn glyph(n: usize) -> u8
     if d < 10 { b'0' + d } else { b'a' + (d - 10) }
 }
 
-// The eight hex digits of a type, which fit. Stored one by one: as two fours, with the older kit, they made a turn on small boxes a tenth
-// slower (measured then), and it stands at 0.88 of the Rust's time, its bar 0.90 (docs/SPEED.md).
+// The eight hex digits of a type, which fit. Stored one by one: as two fours, measured with the older kit, a turn on small boxes took
+// a tenth longer, and at its 0.88 of then (docs/SPEED.md) that misses its bar of 0.90.
 fn write_type(out: &mut [u8], at: usize, ty: u32) -> usize
     requires { at + 8 ≤ length out.old }
     ensures { Pasted out.old at (hex8 ty) out.new result }

@@ -11,8 +11,8 @@ use jxl_listing::put_line;
 use jxl_slices::part;
 use std::io::Read;
 
-// The descriptor of standard output. By the kit's io, which asks for no handle: a writer of std asks for Print, and `list` asks its caller for
-// Eprint alone.
+// The descriptor of standard output. By the kit's io, which asks for no handle: a writer of std asks for Print, and `list`, which is public,
+// may ask no more of its callers than Eprint.
 const STDOUT: i32 = 1;
 
 // Standard output does not take a line: the listing ends there.
