@@ -43,7 +43,7 @@ impl<'f> Packets<'f> {
     }
 
     // Goes on to the next packet, the last of which ends with the file: whether there is one.
-    pub fn has_next(&mut self) -> bool
+    pub fn go_on(&mut self) -> bool
         ensures { result ≡ true → self.new.end ≡ min (self.old.end + self.old.packet) (length self.new.file.now) }
     {
         if self.end == self.file.len() {
@@ -66,9 +66,7 @@ pub fn weight(event: FileEvent) -> u64 {
 
 // The events that a parser shows of the packets of a file, each behind the bytes left unread: the sum of their weights. A proved loop has
 // to end: after `most` steps.
-pub fn events(start: ContainerParser, from: Packets<'_>, most: u64) -> u64 {
-    let mut parser = start;
-    let mut packets = from;
+pub fn events(mut parser: ContainerParser, mut packets: Packets<'_>, most: u64) -> u64 {
     let mut sum: u64 = 0;
     for _ in 0..most {
         match jxl_container::step(parser, packets.input()) {
@@ -84,7 +82,7 @@ pub fn events(start: ContainerParser, from: Packets<'_>, most: u64) -> u64 {
             StepResult::Want { next, consumed } => {
                 parser = next;
                 packets.consume(consumed);
-                if !packets.has_next() {
+                if !packets.go_on() {
                     break;
                 }
             }

@@ -33,7 +33,7 @@ pub extern "C" fn bench_turns(file: &[u8], packet: usize, out: &mut [u8], most: 
         written = written.wrapping_add(after.written);
         parser = after.parser;
         joiner = after.joiner;
-        if after.stop.is_some() && !packets.has_next() {
+        if after.stop.is_some() && !packets.go_on() {
             break;
         }
     }

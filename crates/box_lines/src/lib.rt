@@ -3,6 +3,7 @@
 #![tactic(auto)]
 
 ghost use Rattle.std.specs.Prelude.{◌≡◌, ◌≤◌, true, IfOk, vec_len, string_bytes};
+ghost use Rattle.std.specs.Io.{StartsWith};
 
 use jxl_events::ParseEvent;
 use jxl_record::BitstreamKind;
@@ -46,7 +47,7 @@ fn write_event<W: fmt::Write>(
 ) -> fmt::Result {
     match event {
         ParseEvent::BitstreamKind(kind) => write!(f, "K{}", letter(kind)),
-        ParseEvent::NoMoreAuxBox => write!(f, "N"),
+        ParseEvent::NoMoreAuxBox => f.write_str("N"),
         ParseEvent::Codestream { at, len } => write!(f, "C@{}+{len}", base.wrapping_add(at)),
         ParseEvent::AuxBoxStart {
             ty,
@@ -77,20 +78,25 @@ impl fmt::Display for Token {
     fn fmt<W: fmt::Write>(&self, f: &mut fmt::Formatter<W>) -> fmt::Result {
         match *self {
             Token::Event { event, base } => write_event(f, event, base),
-            Token::Nothing => write!(f, "-"),
+            Token::Nothing => f.write_str("-"),
             Token::Refusal(refusal) => write_refusal(f, refusal),
             Token::PacketEnd(consumed) => write!(f, "|{consumed}"),
-            Token::Broken => write!(f, "!"),
+            Token::Broken => f.write_str("!"),
         }
     }
 }
 
-// Puts a token behind those of a line, parted by a space.
-pub fn put(line: &mut String, token: Token) -> Result<(), AllocError> {
+// Puts a token behind those of a line, parted by a space. The line's text stays in front, where memory runs out too.
+// By a text of its own: `write!` promises nothing of the line where a Display states no output.
+#[tactic(auto, using(crate::proofs::Front::whole, crate::proofs::Front::stays, crate::proofs::Front::stays_parted))]
+pub fn put(line: &mut String, token: Token) -> Result<(), AllocError>
+    ensures { StartsWith (string_bytes line.new) (string_bytes line.old) }
+{
+    let text = token.to_string(*line.allocator())?;
     if !line.is_empty() {
         line.push(' ')?;
     }
-    write!(line, "{token}")
+    line.push_str(&text)
 }
 
 // Puts a mark where a rule that the lists do not spell out is not kept.
@@ -103,8 +109,8 @@ pub fn hold(line: &mut String, is_kept: bool) -> Result<(), AllocError>
     put(line, Token::Broken)
 }
 
-// The byte that two digits of hex tell; 0 for one that stands alone. Not field_lines's: there a letter that is no digit counts 0, here
-// it ends the number.
+// The byte that two digits of hex tell; 0 for one that stands alone. Not `hex_byte` of field_lines: there a letter that is no digit counts
+// 0, here it ends the number.
 fn byte(digits: &[u8]) -> u8 {
     match digits {
         [_, _] => (leading_number(digits, 16).0 & 0xff) as u8,

@@ -2,7 +2,7 @@
 // the total; and one printed behind the answers that led to it.
 #![tactic(auto)]
 
-use jxl_headers::BytesLeft;
+use jxl_headers::{BytesLeft, box_header};
 use jxl_record::{BitstreamKind, BoxParser, DetectState, JxlpIndexState};
 use jxl_refusals::BoxRefusal;
 use jxl_totals::ContainerParser;
@@ -36,7 +36,7 @@ fn state(word: &[u8], left: BytesLeft) -> DetectState {
         [b'i', ..] => DetectState::WaitingJxlpIndex(left),
         [b't', ..] => DetectState::WaitingInnerType(left),
         [b'b', ..] => DetectState::InAuxBox {
-            ty: 0x45786966,
+            ty: box_header::EXIF,
             bytes_left: left,
         },
         [b'c', ..] => DetectState::InCodestream {
@@ -79,14 +79,14 @@ pub fn parser(
 // Writes the `jxlc` and `jxlp` boxes so far.
 fn write_boxes<W: fmt::Write>(f: &mut fmt::Formatter<W>, jxlp: JxlpIndexState) -> fmt::Result {
     match jxlp {
-        JxlpIndexState::Initial => write!(f, "none"),
-        JxlpIndexState::SingleJxlc => write!(f, "jxlc"),
-        JxlpIndexState::JxlpFinished => write!(f, "last"),
+        JxlpIndexState::Initial => f.write_str("none"),
+        JxlpIndexState::SingleJxlc => f.write_str("jxlc"),
+        JxlpIndexState::JxlpFinished => f.write_str("last"),
         JxlpIndexState::Jxlp(index) => write!(f, "jxlp {index}"),
     }
 }
 
-// Writes a refusal's text as the library puts it.
+// Writes a refusal's text as the library puts it: into a lent buffer, of which a text takes at most 61 bytes.
 fn write_text<W: fmt::Write>(f: &mut fmt::Formatter<W>, refusal: BoxRefusal) -> fmt::Result {
     let mut text = [0u8; 64];
     let Ok(len) = jxl_refusal_text::put_refusal(&mut text, 0, refusal) else {
@@ -113,7 +113,7 @@ impl fmt::Display for Record {
         write_boxes(f, parser.boxes.jxlp)?;
         write!(f, " total {} header {}", parser.total, parser.header)?;
         if let DetectState::Refused { refusal, .. } = parser.boxes.state {
-            write!(f, ": ")?;
+            f.write_str(": ")?;
             write_text(f, refusal)?;
             write!(f, ", at {}", self.place)?;
         }

@@ -27,11 +27,14 @@ fn print_stop(rt: &impl Print, stop: StopWord, total: u64) -> io::Result<()> {
     print_line(rt, Line::Stopped { stop, consumed })
 }
 
-// Prints all events of `input`: the bytes left unread, and the packet behind them. Answers the record that the last step leaves.
+// Prints all events of the bytes left unread, with the packet behind them. Answers the record that the last step leaves.
+// A `loop` and no `while let`: that record is in the step's answer too.
 #[tactic(auto, using(crate::proofs::Ending::fits, crate::proofs::Ending::fewer))]
-fn feed(rt: &impl Print, start: ContainerParser, input: &[u8]) -> io::Result<ContainerParser> {
-    let mut parser = start;
-    let mut unread = input;
+fn feed(
+    rt: &impl Print,
+    mut parser: ContainerParser,
+    mut unread: &[u8],
+) -> io::Result<ContainerParser> {
     loop {
         match jxl_container::step(parser, unread) {
             StepResult::Shown {

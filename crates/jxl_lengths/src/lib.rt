@@ -1,9 +1,9 @@
 // How many bytes a line of the listing has.
 #![tactic(auto)]
 
-ghost use Rattle.std.specs.Prelude.{◌≡◌, ◌≤◌, length};
+ghost use Rattle.std.specs.Prelude.{◌≡◌, ◌+◌, ◌≤◌, length};
 ghost use Rattle.jxl_lines.specs.Digits.{decimal};
-ghost use Rattle.jxl_lines.specs.Lines.{text};
+ghost use Rattle.jxl_lines.specs.Lines.{stop_word, text};
 
 use jxl_events::ParseEvent;
 use jxl_lines::{Line, StopWord};
@@ -21,43 +21,46 @@ pub fn digits(n: usize) -> usize
     }
 }
 
+// The bytes of a stop's line but for its number.
+fn stop_length(stop: StopWord) -> usize
+    ensures { result ≡ 7 + length (stop_word stop) }
+{
+    match stop {
+        StopWord::Want | StopWord::Done => 11,
+        StopWord::Limit => 12,
+        StopWord::Closed => 13,
+        StopWord::Refused1 | StopWord::Refused2 => 15,
+        StopWord::CutShort => 15,
+    }
+}
+
 // The bytes of the line, counted and not written.
 #[tactic(auto, using(jxl_lines::proofs::Sizes::start_size, jxl_lines::proofs::Sizes::data_size, jxl_lines::proofs::Sizes::end_size))]
 pub fn line_length(line: Line) -> usize
     ensures { result ≡ length (text line) }
 {
     match line {
-        Line::Shown(event) => match event {
-            ParseEvent::BitstreamKind(kind) => match kind {
-                BitstreamKind::Unknown => 13,
-                BitstreamKind::BareCodestream => 10,
-                BitstreamKind::Container => 15,
-                BitstreamKind::Invalid => 13,
-            },
-            ParseEvent::NoMoreAuxBox => 7,
-            ParseEvent::Codestream { at, len } => 7 + digits(at) + digits(len),
+        Line::Shown(ParseEvent::BitstreamKind(BitstreamKind::BareCodestream)) => 10,
+        Line::Shown(ParseEvent::BitstreamKind(BitstreamKind::Container)) => 15,
+        Line::Shown(ParseEvent::BitstreamKind(BitstreamKind::Unknown | BitstreamKind::Invalid)) => {
+            13
+        }
+        Line::Shown(ParseEvent::NoMoreAuxBox) => 7,
+        Line::Shown(ParseEvent::Codestream { at, len }) => 7 + digits(at) + digits(len),
+        Line::Shown(
             ParseEvent::AuxBoxStart {
-                ty: _,
-                brotli_compressed: brotli,
-                last_box: to_end,
-            } => {
-                if brotli {
-                    if to_end { 26 } else { 28 }
-                } else {
-                    if to_end { 27 } else { 29 }
-                }
-            }
-            ParseEvent::AuxBoxData { ty: _, at, len } => 16 + digits(at) + digits(len),
-            ParseEvent::AuxBoxEnd { ty: _ } => 13,
+                brotli_compressed,
+                last_box,
+                ..
+            },
+        ) => match (brotli_compressed, last_box) {
+            (true, true) => 26,
+            (true, false) => 28,
+            (false, true) => 27,
+            (false, false) => 29,
         },
-        Line::Stopped { stop, consumed } => match stop {
-            StopWord::Want => 11 + digits(consumed),
-            StopWord::Refused1 => 15 + digits(consumed),
-            StopWord::Refused2 => 15 + digits(consumed),
-            StopWord::Limit => 12 + digits(consumed),
-            StopWord::Done => 11 + digits(consumed),
-            StopWord::CutShort => 15 + digits(consumed),
-            StopWord::Closed => 13 + digits(consumed),
-        },
+        Line::Shown(ParseEvent::AuxBoxData { at, len, .. }) => 16 + digits(at) + digits(len),
+        Line::Shown(ParseEvent::AuxBoxEnd { .. }) => 13,
+        Line::Stopped { stop, consumed } => stop_length(stop) + digits(consumed),
     }
 }

@@ -1,5 +1,6 @@
 // The fields of a line, each put into a lent buffer at a place if it fits there.
 // `out` and `at` stay apart here: the public functions are promised so (docs/PROMISES.md). jxl_listing makes a page of them.
+// The ones that answer a place and no Result keep the promise `PutIfRoom` (docs/PROMISES.md): fields stand in a row, no test between them.
 // Digits are put by hand, not by a Display: the promise is on each byte of the lent buffer, and no formatter writes into one.
 #![tactic(auto)]
 
@@ -48,7 +49,8 @@ fn glyph(n: usize) -> u8
     if d < 10 { b'0' + d } else { b'a' + (d - 10) }
 }
 
-// The eight hex digits of a type, which fit. Stored one by one: two fours make the listing of small boxes a tenth slower.
+// The eight hex digits of a type, which fit. Stored one by one: as two fours, measured with the older kit, a turn on small boxes took
+// a tenth longer, and at its 0.88 of then (docs/SPEED.md) that misses its bar of 0.90.
 fn write_type(out: &mut [u8], at: usize, ty: u32) -> usize
     requires { at + 8 ≤ length out.old }
     ensures { Pasted out.old at (hex8 ty) out.new result }

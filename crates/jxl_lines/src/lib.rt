@@ -10,7 +10,7 @@ use jxl_refusals::BoxRefusal;
 
 // Why a listing ends, or a turn of one, as it is printed: more is wanted, which only a turn says; a refusal by its number in document 01; the
 // limit of a file; its end, with nothing missing or with something; or that the parser had been ended before.
-#[derive(Clone, Copy)]
+#[derive(Clone, Copy, Debug, PartialEq, Eq)]
 pub enum StopWord {
     Want,
     Refused1,
@@ -22,7 +22,7 @@ pub enum StopWord {
 }
 
 impl StopWord {
-    // What is printed of a refusal, and of Closed, which is none. Not a From: ten rules have one word here.
+    // What is printed of a refusal, and of Closed, which is none. Not a From: docs/PROMISES.md promises it by this name (`OneRefused`).
     pub fn refused(refusal: BoxRefusal) -> StopWord
         ensures { result ≡ printed (why refusal) }
     {
@@ -31,32 +31,29 @@ impl StopWord {
             BoxRefusal::StreamLimit => StopWord::Limit,
             BoxRefusal::CutShort => StopWord::CutShort,
             BoxRefusal::Closed => StopWord::Closed,
-            BoxRefusal::ShortSize => StopWord::Refused1,
-            BoxRefusal::ExtendedSize => StopWord::Refused1,
-            BoxRefusal::SecondJxlc => StopWord::Refused1,
-            BoxRefusal::JxlcAfterJxlp => StopWord::Refused1,
-            BoxRefusal::JxlpTooSmall => StopWord::Refused1,
-            BoxRefusal::JxlpAfterJxlc => StopWord::Refused1,
-            BoxRefusal::JxlpAfterLast => StopWord::Refused1,
-            BoxRefusal::WrongIndex {
-                found: _,
-                expected: _,
-            } => StopWord::Refused1,
-            BoxRefusal::BrobTooSmall => StopWord::Refused1,
-            BoxRefusal::ImpossibleRecord => StopWord::Refused1,
+            BoxRefusal::ShortSize
+            | BoxRefusal::ExtendedSize
+            | BoxRefusal::SecondJxlc
+            | BoxRefusal::JxlcAfterJxlp
+            | BoxRefusal::JxlpTooSmall
+            | BoxRefusal::JxlpAfterJxlc
+            | BoxRefusal::JxlpAfterLast
+            | BoxRefusal::WrongIndex { .. }
+            | BoxRefusal::BrobTooSmall
+            | BoxRefusal::ImpossibleRecord => StopWord::Refused1,
         }
     }
 }
 
 // One record of the listing: a joined event with its place in the file, or the stop with the bytes consumed.
-#[derive(Clone, Copy)]
+#[derive(Clone, Copy, Debug, PartialEq, Eq)]
 pub enum Line {
     Shown(ParseEvent),
     Stopped { stop: StopWord, consumed: usize },
 }
 
 // A line did not fit: how many bytes it has.
-#[derive(Clone, Copy, PartialEq, Eq)]
+#[derive(Clone, Copy, Debug, PartialEq, Eq)]
 pub struct NoRoom {
     pub needed: usize,
 }

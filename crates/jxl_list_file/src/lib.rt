@@ -64,7 +64,7 @@ impl<'a> Lines<'a> {
     }
 }
 
-impl<'a> Iterator for Lines<'a> {
+impl Iterator for Lines<'_> {
     type Item = Line;
 
     ghost next_gives = { YieldsFirst (λ s. lines_left s.next s.file.now) };
@@ -121,6 +121,7 @@ fn put(out: &mut [u8], at: usize, line: Line) -> usize
 }
 
 // The listing of a whole file in memory: all its lines at the front of `out`; or how much room they need, and `out` as it was.
+// Into lent memory and no String: the libraries use no heap.
 pub fn list_file(file: &[u8], out: &mut [u8]) -> Put
     ensures { leaves result out.new ≡ list_of out.old (file_text file.now) }
 {

@@ -11,7 +11,8 @@ use jxl_listing::put_line;
 use jxl_slices::part;
 use std::io::Read;
 
-// The descriptor of standard output.
+// The descriptor of standard output. By the kit's io, which asks for no handle: a writer of std asks for Print, and `list`, which is public,
+// may ask no more of its callers than Eprint.
 const STDOUT: i32 = 1;
 
 // Standard output does not take a line: the listing ends there.
@@ -82,10 +83,10 @@ impl Listing<'_> {
 
     // Writes the line of the event that the joiner still holds.
     fn write_held(&mut self) -> Result<(), Unwritten> {
-        match self.joiner.finish() {
-            None => Ok(()),
-            Some(whole) => self.write_line(Line::Shown(whole.event)),
+        if let Some(whole) = self.joiner.finish() {
+            self.write_line(Line::Shown(whole.event))?;
         }
+        Ok(())
     }
 
     // Writes the next line that the end call gives, and answers whether it was an event's, behind which another comes.

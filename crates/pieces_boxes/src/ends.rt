@@ -1,4 +1,5 @@
 // Pieces of the end: what the end call comes to behind a feed, and what the record that it leaves answers then.
+use crate::Piece;
 use box_answers::Feed;
 use box_records::Record;
 use jxl_container::{ContainerParser, EndResult};
@@ -17,16 +18,6 @@ fn print_ended(rt: &impl Print, name: &str, feed: &Feed, ended: EndResult) -> io
     println!(rt; "  {name}: {}{done} {record}", feed.answer)
 }
 
-// Ends the feed with the bytes of the file that it left unread, and answers the record that is left.
-fn end(rt: &impl Print, fed: Feed, file: &[u8]) -> io::Result<ContainerParser> {
-    let mut feed = fed;
-    feed.answer.clear();
-    let unread = feed.unread(file);
-    let ended = box_ends::end(&mut feed, unread)?;
-    print_ended(rt, "end", &feed, ended)?;
-    Ok(ended.next)
-}
-
 // What a record that was ended answers to a feed of a file that a new parser would take, to one of nothing, and to an end call with that
 // file unread.
 fn then(rt: &(impl Print + AllocGlobal), parser: ContainerParser) -> io::Result<()> {
@@ -38,62 +29,51 @@ fn then(rt: &(impl Print + AllocGlobal), parser: ContainerParser) -> io::Result<
     print_ended(rt, "then", &feed, ended)
 }
 
-// The file fed in two packets, the first of `cut` bytes.
-fn in_two(
-    rt: &(impl Print + AllocGlobal),
-    parser: ContainerParser,
-    file: &[u8],
-    cut: usize,
-) -> io::Result<Feed> {
-    let mut feed = Feed::new(rt.alloc(), parser);
-    feed.packet(file, cut)?;
-    feed.packet(file, file.len())?;
-    crate::print_feed(rt, "in two", &feed)?;
-    Ok(feed)
-}
+impl Piece<'_> {
+    // Ends the feed with the bytes of the file that it left unread, and answers the record that is left.
+    fn end(self, rt: &impl Print, mut feed: Feed) -> io::Result<ContainerParser> {
+        feed.answer.clear();
+        let unread = feed.unread(self.file);
+        let ended = box_ends::end(&mut feed, unread)?;
+        print_ended(rt, "end", &feed, ended)?;
+        Ok(ended.next)
+    }
 
-// One step on the file: where there are more events in it, they are not taken.
-fn one_step(
-    rt: &(impl Print + AllocGlobal),
-    parser: ContainerParser,
-    file: &[u8],
-) -> io::Result<Feed> {
-    let mut feed = Feed::new(rt.alloc(), parser);
-    feed.turn(file, file.len())?;
-    crate::print_feed(rt, "one step", &feed)?;
-    Ok(feed)
-}
+    // The file fed in two packets, the first of `cut` bytes.
+    fn in_two(self, rt: &(impl Print + AllocGlobal), cut: usize) -> io::Result<Feed> {
+        let mut feed = Feed::new(rt.alloc(), self.parser);
+        feed.packet(self.file, cut)?;
+        feed.packet(self.file, self.file.len())?;
+        crate::print_feed(rt, "in two", &feed)?;
+        Ok(feed)
+    }
 
-// A file fed whole and ended, and fed in two packets and ended.
-pub fn piece(
-    rt: &(impl Print + AllocGlobal),
-    parser: ContainerParser,
-    file: &[u8],
-    cut: usize,
-) -> io::Result<()> {
-    let whole = crate::fed(rt, "whole", parser, file)?;
-    then(rt, end(rt, whole, file)?)?;
-    let parted = in_two(rt, parser, file, cut)?;
-    end(rt, parted, file)?;
-    Ok(())
-}
+    // One step on the file: where there are more events in it, they are not taken.
+    fn one_step(self, rt: &(impl Print + AllocGlobal)) -> io::Result<Feed> {
+        let mut feed = Feed::new(rt.alloc(), self.parser);
+        feed.turn(self.file, self.file.len())?;
+        crate::print_feed(rt, "one step", &feed)?;
+        Ok(feed)
+    }
 
-// A file given to one step, and ended with the rest of it unread.
-pub fn early(
-    rt: &(impl Print + AllocGlobal),
-    parser: ContainerParser,
-    file: &[u8],
-) -> io::Result<()> {
-    let feed = one_step(rt, parser, file)?;
-    then(rt, end(rt, feed, file)?)
-}
+    // A file fed whole and ended, and fed in two packets and ended.
+    pub fn ended(self, rt: &(impl Print + AllocGlobal), cut: usize) -> io::Result<()> {
+        let whole = self.fed(rt, "whole")?;
+        then(rt, self.end(rt, whole)?)?;
+        let parted = self.in_two(rt, cut)?;
+        self.end(rt, parted)?;
+        Ok(())
+    }
 
-// A record given nothing, and ended with the bytes unread.
-pub fn at_once(
-    rt: &(impl Print + AllocGlobal),
-    parser: ContainerParser,
-    unread: &[u8],
-) -> io::Result<()> {
-    let feed = crate::fed(rt, "nothing", parser, b"")?;
-    then(rt, end(rt, feed, unread)?)
+    // A file given to one step, and ended with the rest of it unread.
+    pub fn ended_early(self, rt: &(impl Print + AllocGlobal)) -> io::Result<()> {
+        let feed = self.one_step(rt)?;
+        then(rt, self.end(rt, feed)?)
+    }
+
+    // A record given nothing, and ended with the bytes unread.
+    pub fn ended_at_once(self, rt: &(impl Print + AllocGlobal)) -> io::Result<()> {
+        let feed = Piece { file: b"", ..self }.fed(rt, "nothing")?;
+        then(rt, self.end(rt, feed)?)
+    }
 }

@@ -24,28 +24,40 @@ fn print_feed(rt: &impl Print, name: &str, feed: &Feed) -> io::Result<()> {
     println!(rt; "  {name}: {:.256} {record}", feed.answer)
 }
 
-// Feeds the file to the record, prints what that gives, and answers the feed behind it.
-fn fed(
-    rt: &(impl Print + AllocGlobal),
-    name: &str,
+// A record, and the file that it is given.
+#[derive(Clone, Copy)]
+struct Piece<'f> {
     parser: ContainerParser,
-    file: &[u8],
-) -> io::Result<Feed> {
-    let mut feed = Feed::new(rt.alloc(), parser);
-    feed.packet(file, file.len())?;
-    print_feed(rt, name, &feed)?;
-    Ok(feed)
+    file: &'f [u8],
 }
 
-// A piece: the record given nothing and the file; where it refuses, the file again and nothing.
-fn piece(rt: &(impl Print + AllocGlobal), parser: ContainerParser, file: &[u8]) -> io::Result<()> {
-    fed(rt, "nothing", parser, b"")?;
-    let given = fed(rt, "given", parser, file)?;
-    if given.refusal.is_some() {
-        let again = fed(rt, "again", given.parser, file)?;
-        fed(rt, "nothing", again.parser, b"")?;
+impl Piece<'_> {
+    // Feeds the file to the record, prints what that gives, and answers the feed behind it.
+    fn fed(self, rt: &(impl Print + AllocGlobal), name: &str) -> io::Result<Feed> {
+        let mut feed = Feed::new(rt.alloc(), self.parser);
+        feed.packet(self.file, self.file.len())?;
+        print_feed(rt, name, &feed)?;
+        Ok(feed)
     }
-    Ok(())
+
+    // A piece that is not ended: the record given nothing and the file; where it refuses, the file again and nothing.
+    fn given(self, rt: &(impl Print + AllocGlobal)) -> io::Result<()> {
+        Piece { file: b"", ..self }.fed(rt, "nothing")?;
+        let given = self.fed(rt, "given")?;
+        if given.refusal.is_some() {
+            let again = Piece {
+                parser: given.parser,
+                ..self
+            }
+            .fed(rt, "again")?;
+            Piece {
+                parser: again.parser,
+                file: b"",
+            }
+            .fed(rt, "nothing")?;
+        }
+        Ok(())
+    }
 }
 
 // The word of a piece at this place, where a space parts two words and the seventh goes on to the end; an empty one if there is none.
@@ -58,12 +70,15 @@ fn word(piece: &[u8], place: usize) -> &[u8] {
 fn run(rt: &(impl Print + AllocGlobal), told: &[u8]) -> io::Result<()> {
     let parser = box_records::parser(word(told, 1), word(told, 2), word(told, 3), word(told, 4));
     let bytes = box_lines::file(rt.alloc(), word(told, 5))?;
-    let file = bytes.as_slice();
+    let piece = Piece {
+        parser,
+        file: &bytes,
+    };
     match word(told, 6) {
-        [] => piece(rt, parser, file),
-        [b'.', ..] => ends::at_once(rt, parser, file),
-        [b'+', ..] => ends::early(rt, parser, file),
-        cut => ends::piece(rt, parser, file, leading_number(cut, 10).0 as usize),
+        [] => piece.given(rt),
+        [b'.', ..] => piece.ended_at_once(rt),
+        [b'+', ..] => piece.ended_early(rt),
+        cut => piece.ended(rt, leading_number(cut, 10).0 as usize),
     }
 }
 

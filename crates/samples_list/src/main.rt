@@ -2,11 +2,9 @@
 #![tactic(auto)]
 
 use std::fs::File;
+use std::io::Write;
 use std::rt::{Env, Files};
 use std::str;
-
-// The descriptor of standard output.
-const STDOUT: i32 = 1;
 
 // Lists the file of this name. One that cannot be opened is told.
 fn list_file(rt: &(impl Files + Eprint), name: &str) {
@@ -19,9 +17,11 @@ fn list_file(rt: &(impl Files + Eprint), name: &str) {
 }
 
 // Prints the name, and lists the file behind it. A name that is no text is told.
-fn list_named(rt: &(impl Files + Eprint), name: &[u8]) {
-    io::write_all(STDOUT, name);
-    io::write_all(STDOUT, b":\n");
+fn list_named(rt: &(impl Files + Print + Eprint), name: &[u8]) {
+    let mut out = std::io::writer(rt);
+    // a write that fails is let pass: the listing behind it ends at its own
+    let _ = out.write_all(name);
+    let _ = out.write_all(b":\n");
     match str::from_utf8(name) {
         Ok(text) => list_file(rt, text),
         Err(error) => {
