@@ -40,7 +40,8 @@ fn wider(width: usize, most: usize) -> usize {
     if width < most { width + 1 } else { 1 }
 }
 
-// `read_bits` of 1 to 32 bits in turn.
+// `read_bits` of 1 to 32 bits in turn. The three drivers over widths stay apart: behind one closure over the width, what `sum_fields` requires
+// of its reader was not proved.
 #[unsafe(no_mangle)]
 pub extern "C" fn bench_read_bits(s: &[u8], count: u64) -> u64 {
     let mut width = 0;

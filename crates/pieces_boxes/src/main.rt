@@ -75,7 +75,7 @@ fn run(rt: &(impl Print + AllocGlobal), told: &[u8]) -> io::Result<()> {
         file: &bytes,
     };
     match word(told, 6) {
-        [] => piece.given(rt),
+        [] | [0, ..] => piece.given(rt),
         [b'.', ..] => piece.ended_at_once(rt),
         [b'+', ..] => piece.ended_early(rt),
         cut => piece.ended(rt, leading_number(cut, 10).0 as usize),
