@@ -1,3 +1,2 @@
 pub mod OneAnswer
 pub mod Never
-pub mod Room
