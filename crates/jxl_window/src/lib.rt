@@ -11,21 +11,24 @@ fn byte_or_zero(s: &[u8], i: usize) -> u8
     s.get(i).copied().unwrap_or(0)
 }
 
-// The bytes from `i` on.
-fn behind(s: &[u8], i: usize) -> &[u8]
-    ensures { result.now ≡ drop i s.now }
-{
-    s.get(i..).unwrap_or(&[])
-}
-
 // The eight bytes from the one that holds bit `at`, those beyond the end as 0. Five would do; eight are one load.
 pub fn window(s: &[u8], at: usize) -> u64
     ensures { result ≡ number (drop (at / 8) s.now) % 2 ^ 64 }
 {
     let i = at / 8;
-    match behind(s, i).first_chunk::<8>() {
-        Some(eight) => u64::from_le_bytes(*eight),
-        None => u64::from_le_bytes([
+    if i + 8 <= s.len() {
+        u64::from_le_bytes([
+            s[i],
+            s[i + 1],
+            s[i + 2],
+            s[i + 3],
+            s[i + 4],
+            s[i + 5],
+            s[i + 6],
+            s[i + 7],
+        ])
+    } else {
+        u64::from_le_bytes([
             byte_or_zero(s, i),
             byte_or_zero(s, i + 1),
             byte_or_zero(s, i + 2),
@@ -34,6 +37,6 @@ pub fn window(s: &[u8], at: usize) -> u64
             byte_or_zero(s, i + 5),
             byte_or_zero(s, i + 6),
             byte_or_zero(s, i + 7),
-        ]),
+        ])
     }
 }
