@@ -12,6 +12,7 @@ fn byte_or_zero(s: &[u8], i: usize) -> u8
 }
 
 // The eight bytes from the one that holds bit `at`, those beyond the end as 0. Five would do; eight are one load.
+// Picked one by one: by `first_chunk` peek_bits took 0.70 in place of 0.43 of the Rust's time, read_bool 0.52 in place of 0.28.
 pub fn window(s: &[u8], at: usize) -> u64
     ensures { result ≡ number (drop (at / 8) s.now) % 2 ^ 64 }
 {
