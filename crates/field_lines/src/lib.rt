@@ -145,7 +145,7 @@ fn f32_bits(answer: Read<u32>) -> Read<Value> {
     Ok((Value::Bits(bits), at))
 }
 
-// The call of a line. One that is not named here asks for a checksum.
+// The call of a line, by its letter. One that is not named here asks for a checksum. A match and no table: calls differ in what they take.
 fn call(alloc: Global, s: &[u8], at: usize, line: &[u8]) -> Result<Read<Value>, AllocError> {
     let words = skip(line, 2);
     let n = leading_number(words, 10).0 as usize;

@@ -51,7 +51,8 @@ pub enum HeaderParseResult {
     Refused(BoxRefusal),
 }
 
-// The 4 bytes at `at`, the first the highest.
+// The 4 bytes at `at`, the first the highest. The three functions here that ask for bytes ask for other ones each: a type that holds them
+// would be no plainer.
 fn be32_there(s: &[u8], at: usize) -> u32
     requires { at + 4 ≤ length s.now }
     ensures { result ≡ be32 s.now at }
