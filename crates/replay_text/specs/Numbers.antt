@@ -1,7 +1,7 @@
 -- Numbers at the front of a text.
 use Rattle.std.specs.Prelude.{ℕ, List, [], ◌∷◌, ◌+◌, ◌-◌, ◌*◌, ◌^◌, nat_lt, Option, Some, None, if◌then◌else◌}
 
--- what the digits from `first` on count, from `zero` on
+-- what a byte counts where it is one of `count` digits from `first` on, the first of which counts `from`; else `other`
 abbrev span : ℕ → ℕ → ℕ → ℕ → Option ℕ → Option ℕ
 span first count from b other = if nat_lt b first then other else if nat_lt b (first + count) then Some (b - first + from) else other
 
