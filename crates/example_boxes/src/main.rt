@@ -1,6 +1,8 @@
 // Lists the boxes of a small file that comes in two packets and then ends, as a user of the container would.
 #![tactic(auto)]
 
+ghost use Rattle.std.specs.Prelude.{◌+◌, ◌≤◌, length};
+
 use jxl_container::{ContainerParser, FileEvent, StepResult};
 use jxl_lines::{Line, StopWord};
 use std::io;
@@ -26,10 +28,13 @@ fn print_stop(rt: &impl Print, stop: StopWord, total: u64) {
     print_line(rt, Line::Stopped { stop, consumed });
 }
 
-// Prints all events of the bytes left unread, with the packet behind them. Answers the record that the last step leaves.
+// Prints all events of the bytes left unread, with the packet behind them. Answers the record that the last step leaves, which has counted
+// no more bytes than were there.
 // A `loop` and no `while let`: that record is in the step's answer too.
-#[tactic(auto, using(crate::proofs::Ending::fits, crate::proofs::Ending::fewer))]
-fn feed(rt: &impl Print, mut parser: ContainerParser, mut unread: &[u8]) -> ContainerParser {
+#[tactic(auto, using(crate::proofs::Ending::of_step))]
+fn feed(rt: &impl Print, mut parser: ContainerParser, mut unread: &[u8]) -> ContainerParser
+    ensures { (parser.total ≤ result.total) × (result.total ≤ parser.total + length unread.entry.now) }
+{
     loop {
         match jxl_container::step(parser, unread) {
             StepResult::Shown {
