@@ -1,2 +1,3 @@
+mod Taking
 pub mod Unique
 pub mod Ruled
