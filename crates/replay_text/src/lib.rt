@@ -2,9 +2,9 @@
 // the answers compared. Nothing is asked of a caller.
 #![tactic(auto)]
 
-ghost use Rattle.std.specs.Prelude.{◌≡◌, ◌+◌, ◌-◌, ◌^◌, ◌<◌, ◌==◌, ◌++◌, ◌∷◌, ◌≤◌, [], length, min, take, drop, position, codes, decimal, Some, None, IfSome, MatchOption, MatchBool};
+ghost use Rattle.std.specs.Prelude.{◌≡◌, ◌+◌, ◌-◌, ◌^◌, ◌<◌, ◌==◌, ◌++◌, ◌∷◌, ◌≤◌, [], length, min, take, drop, position, codes, decimal, Some, None, IsOk, IfSome, MatchOption, MatchBool};
 ghost use Rattle.std.specs.Iterator.{at_most};
-ghost use Rattle.replay_text.specs.Held.{held};
+ghost use Rattle.replay_text.specs.Held.{held, shown};
 ghost use Rattle.replay_text.specs.Lines.{IsNextLine};
 ghost use Rattle.replay_text.specs.Numbers.{digit, appended, number};
 
@@ -67,11 +67,14 @@ impl<const N: usize> Bytes<N> {
     }
 }
 
-// `write!` of a Display that does not fail itself cannot fail.
+// What is written is put behind, which cannot fail.
 impl<const N: usize> fmt::Write for Bytes<N> {
     ghost write_str_gives = { λ s text t. held t ≡ take N (held s ++ text) };
 
-    fn write_str(&mut self, s: &str) -> fmt::Result {
+    fn write_str(&mut self, s: &str) -> fmt::Result
+        ensures ok { IsOk result → held self.new ≡ take N (held self.old ++ s.now) }
+        ensures done { IsOk result }
+    {
         self.push(s.as_bytes());
         Ok(())
     }
@@ -79,6 +82,8 @@ impl<const N: usize> fmt::Write for Bytes<N> {
 
 // The bytes as text; where they are no UTF-8, nothing.
 impl<const N: usize> fmt::Display for Bytes<N> {
+    ghost output = { λ b. Some (shown b) };
+
     fn fmt<W: fmt::Write>(&self, f: &mut fmt::Formatter<W>) -> fmt::Result {
         f.pad(str::from_utf8(self.as_bytes()).unwrap_or(""))
     }
