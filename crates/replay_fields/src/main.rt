@@ -1,6 +1,8 @@
 // Replays the stored list of the Rust's answers (standard input) on the proved fields, and says how many answers differ.
 #![tactic(auto)]
 
+ghost use Rattle.std.specs.Prelude.{◌≡◌, length};
+
 use field_lines::Buffer;
 use replay_text::{Tally, lines, read_input, split_once};
 
@@ -16,7 +18,9 @@ fn is_told(line: &[u8], text: &[u8]) -> bool {
 }
 
 // Room for the list. Made in a function of its own, so that no proof looks into its elements.
-fn room() -> [u8; INPUT_MOST] {
+fn room() -> [u8; INPUT_MOST]
+    ensures { 1048576 ≡ length result }
+{
     [0; INPUT_MOST]
 }
 
