@@ -23,7 +23,7 @@ pub enum Signature {
 }
 
 // Whether every byte of `prefix` stands at its place in `s`. By hand and not by the library's `starts_with`: that is called and not taken
-// into a step, which made the first step of a file take twice as long.
+// into a step, which made the first step of a file take up to half as long again.
 fn starts_with(s: &[u8], prefix: &[u8]) -> bool
     ensures { result ≡ starts prefix.now s.now }
 {
