@@ -1,25 +1,26 @@
 // What feeding a file to the parser in packets shows, each behind the bytes that the feeds before left unread, as tokens of the stored lists.
 #![tactic(auto)]
 
-ghost use Rattle.std.specs.Prelude.{◌≡◌, ◌+◌, ◌%◌, ◌^◌, None, true, length, string_bytes};
+ghost use Rattle.std.specs.Prelude.{◌≡◌, ◌+◌, ◌%◌, ◌^◌, None, true, length};
 ghost use Rattle.jxl_slices.specs.Part.{between};
+ghost use Rattle.replay_text.specs.Held.{held};
 
-use box_lines::Token;
+use box_lines::{LINE_MOST, Token};
 use jxl_container::{
     BitstreamKind, BoxRefusal, ContainerParser, FileEvent, FileRefusal, ParseEvent, StepResult,
 };
 use jxl_slices::part;
-use std::alloc::{AllocError, Global};
+use replay_text::{Bytes, leading_number};
 
 // A feed: its answer so far, the record, the record's total at the start and the bytes consumed since, counted here, the kind that an event
 // told, and where the last step refused, or answered Closed, that refusal.
-#[derive(Drop)]
+#[derive(Clone, Copy)]
 pub struct Feed {
-    pub answer: String,
+    pub answer: Bytes<LINE_MOST>,
     pub parser: ContainerParser,
-    from: u64,
+    pub from: u64,
     pub consumed: usize,
-    told: BitstreamKind,
+    pub told: BitstreamKind,
     pub refusal: Option<FileRefusal>,
 }
 
@@ -59,11 +60,11 @@ pub fn is_repeated(refused: ContainerParser, input: &[u8], first: FileRefusal) -
 
 impl Feed {
     // The start of a feed: a record, nothing consumed, no answer yet.
-    pub fn new(alloc: Global, parser: ContainerParser) -> Feed
+    pub fn new(parser: ContainerParser) -> Feed
         ensures { (result.parser ≡ parser) × (result.consumed ≡ 0) × (result.refusal ≡ None) }
     {
         Feed {
-            answer: String::new(alloc),
+            answer: Bytes::new(),
             parser,
             from: parser.total,
             consumed: 0,
@@ -87,46 +88,41 @@ impl Feed {
     }
 
     // Puts a token, which consumes nothing.
-    pub fn put(&mut self, token: Token) -> Result<(), AllocError>
+    pub fn put(&mut self, token: Token)
         ensures { self.new.consumed ≡ self.old.consumed }
     {
-        box_lines::put(&mut self.answer, token)
+        box_lines::put(&mut self.answer, token);
     }
 
     // Puts a mark where a rule is not kept; else the answer stays.
-    pub fn hold(&mut self, is_kept: bool) -> Result<(), AllocError>
-        ensures { is_kept ≡ true → string_bytes self.new.answer ≡ string_bytes self.old.answer }
+    pub fn hold(&mut self, is_kept: bool)
+        ensures { is_kept ≡ true → held self.new.answer ≡ held self.old.answer }
     {
-        box_lines::hold(&mut self.answer, is_kept)
+        box_lines::hold(&mut self.answer, is_kept);
     }
 
     // Puts an event of a step on `input`, and a mark where its payload is not that part of the file, or not where the event says.
-    fn show(&mut self, file: &[u8], input: &[u8], shown: FileEvent) -> Result<(), AllocError> {
+    fn show(&mut self, file: &[u8], input: &[u8], shown: FileEvent) {
         let event = shown.event;
         let base = self.consumed;
         if let ParseEvent::BitstreamKind(kind) = event {
             self.told = kind;
         }
-        self.put(Token::Event { event, base })?;
-        self.hold(is_payload(file, base, input, event))?;
-        self.hold(is_placed(self.total(), shown))
+        self.put(Token::Event { event, base });
+        self.hold(is_payload(file, base, input, event));
+        self.hold(is_placed(self.total(), shown));
     }
 
     // Puts a refusal of a step on `input`, and a mark where the refused record does not repeat it, given the input again or nothing.
-    fn refuse(
-        &mut self,
-        next: ContainerParser,
-        input: &[u8],
-        refusal: FileRefusal,
-    ) -> Result<(), AllocError> {
+    fn refuse(&mut self, next: ContainerParser, input: &[u8], refusal: FileRefusal) {
         self.refusal = Some(refusal);
-        self.put(Token::Refusal(refusal.rule))?;
-        self.hold(is_repeated(next, input, refusal))?;
-        self.hold(is_repeated(next, b"", refusal))
+        self.put(Token::Refusal(refusal.rule));
+        self.hold(is_repeated(next, input, refusal));
+        self.hold(is_repeated(next, b"", refusal));
     }
 
     // Puts Closed.
-    fn close(&mut self, next: ContainerParser) -> Result<(), AllocError> {
+    fn close(&mut self, next: ContainerParser) {
         let rule = BoxRefusal::Closed;
         let total = next.total;
         self.refusal = Some(FileRefusal {
@@ -134,24 +130,19 @@ impl Feed {
             total,
             place: total,
         });
-        self.put(Token::Refusal(rule))
+        self.put(Token::Refusal(rule));
     }
 
     // Passes to the record behind a step, and puts a mark where the step did not count its bytes, or told another total.
-    fn pass(
-        &mut self,
-        next: ContainerParser,
-        consumed: usize,
-        told: u64,
-    ) -> Result<(), AllocError> {
+    fn pass(&mut self, next: ContainerParser, consumed: usize, told: u64) {
         let total = self.parser.total.wrapping_add(consumed as u64);
         self.parser = next;
         self.consumed = self.consumed.wrapping_add(consumed);
-        self.hold(next.total == total && told == total)
+        self.hold(next.total == total && told == total);
     }
 
     // One step on the bytes of the file up to `end` that are not consumed: whether it showed an event, so that more may come.
-    pub fn turn(&mut self, file: &[u8], end: usize) -> Result<bool, AllocError> {
+    pub fn turn(&mut self, file: &[u8], end: usize) -> bool {
         let input = part(file, self.consumed, end);
         self.refusal = None;
         match jxl_container::step(self.parser, input) {
@@ -160,35 +151,34 @@ impl Feed {
                 consumed,
                 event,
             } => {
-                self.show(file, input, event)?;
-                self.pass(next, consumed, event.total)?;
-                return Ok(true);
+                self.show(file, input, event);
+                self.pass(next, consumed, event.total);
+                return true;
             }
-            StepResult::Want { next, consumed } => self.pass(next, consumed, next.total)?,
+            StepResult::Want { next, consumed } => self.pass(next, consumed, next.total),
             StepResult::Refused {
                 next,
                 consumed,
                 refusal,
             } => {
-                self.refuse(next, input, refusal)?;
-                self.pass(next, consumed, refusal.total)?;
+                self.refuse(next, input, refusal);
+                self.pass(next, consumed, refusal.total);
             }
             StepResult::Closed { next, consumed } => {
-                self.close(next)?;
-                self.pass(next, consumed, next.total)?;
+                self.close(next);
+                self.pass(next, consumed, next.total);
             }
         }
-        Ok(false)
+        false
     }
 
     // Steps up to WANT or a refusal. A proved loop has to end, and no file of the list has 128 events.
-    fn steps(&mut self, file: &[u8], end: usize) -> Result<(), AllocError> {
+    fn steps(&mut self, file: &[u8], end: usize) {
         for _ in 0..129 {
-            if !self.turn(file, end)? {
+            if !self.turn(file, end) {
                 break;
             }
         }
-        Ok(())
     }
 
     // Whether at most 15 bytes are unread, or the parser has refused.
@@ -197,51 +187,48 @@ impl Feed {
     }
 
     // The packet that ends at `end` of the file: its steps, a mark where a rule that holds behind it is broken, and the bytes consumed.
-    pub fn packet(&mut self, file: &[u8], end: usize) -> Result<(), AllocError> {
-        self.steps(file, end)?;
-        self.hold(self.is_read(end))?;
+    pub fn packet(&mut self, file: &[u8], end: usize) {
+        self.steps(file, end);
+        self.hold(self.is_read(end));
         // the kind told on request is the one that an event told
         let told = self.told;
-        self.hold(self.parser.kind() == told)?;
-        self.put(Token::PacketEnd(self.consumed))
+        self.hold(self.parser.kind() == told);
+        self.put(Token::PacketEnd(self.consumed));
     }
 }
 
 // The file fed in packets of the lengths `cuts`, nothing after a refusal.
-pub fn whole(alloc: Global, file: &[u8], cuts: &[u8]) -> Result<Feed, AllocError> {
-    let mut feed = Feed::new(alloc, ContainerParser::new());
+pub fn whole(file: &[u8], cuts: &[u8]) -> Feed {
+    let mut feed = Feed::new(ContainerParser::new());
     let mut end = 0usize;
     for cut in cuts.split_inclusive(|b| *b == b',') {
-        end = end.wrapping_add(replay_text::leading_number(cut, 10).0 as usize);
-        feed.packet(file, end)?;
+        end = end.wrapping_add(leading_number(cut, 10).0 as usize);
+        feed.packet(file, end);
         if feed.refusal.is_some() {
             break;
         }
     }
-    Ok(feed)
+    feed
 }
 
 #[cfg(test)]
 mod tests {
     use super::*;
-    use std::test::Fail;
 
     // lines 7 and 10 of the stored list
     #[test]
-    fn a_bare_file_comes_in_two_packets(rt: HostRuntime) -> Result<(), Fail> {
-        let feed = whole(rt.alloc(), b"\xff\x0a", b"1,1")?;
-        assert_eq!(rt; feed.answer.as_str(), "|0 Kb N C@0+2 |2");
-        Ok(())
+    fn a_bare_file_comes_in_two_packets(rt: HostRuntime) {
+        let feed = whole(b"\xff\x0a", b"1,1");
+        assert_eq!(rt; feed.answer.as_bytes(), b"|0 Kb N C@0+2 |2".as_slice());
     }
 
     #[test]
-    fn a_turn_shows_the_kind(rt: HostRuntime) -> Result<(), Fail> {
-        let mut feed = Feed::new(rt.alloc(), ContainerParser::new());
-        let shown = feed.turn(b"\xff\x0a", 2)?;
+    fn a_turn_shows_the_kind(rt: HostRuntime) {
+        let mut feed = Feed::new(ContainerParser::new());
+        let shown = feed.turn(b"\xff\x0a", 2);
         assert!(rt; shown);
-        feed.hold(false)?;
-        feed.put(Token::Nothing)?;
-        assert_eq!(rt; feed.answer.as_str(), "Kb ! -");
-        Ok(())
+        feed.hold(false);
+        feed.put(Token::Nothing);
+        assert_eq!(rt; feed.answer.as_bytes(), b"Kb ! -".as_slice());
     }
 }

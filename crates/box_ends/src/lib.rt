@@ -5,7 +5,6 @@
 use box_answers::{Feed, is_repeated};
 use box_lines::Token;
 use jxl_container::{BoxRefusal, ContainerParser, EndResult, FileEvent, FileRefusal, StepResult};
-use std::alloc::AllocError;
 
 // A file that a new parser would take.
 const FILE: &[u8] = b"\xff\x0a";
@@ -53,7 +52,7 @@ fn due(feed: &Feed) -> FileRefusal {
 }
 
 // Puts the event that is owed, at its place in the file, or that none is, and a mark where it carries another total.
-fn put_owed(feed: &mut Feed, owed: Option<FileEvent>) -> Result<(), AllocError> {
+fn put_owed(feed: &mut Feed, owed: Option<FileEvent>) {
     let Some(event) = owed else {
         return feed.put(Token::Nothing);
     };
@@ -61,40 +60,38 @@ fn put_owed(feed: &mut Feed, owed: Option<FileEvent>) -> Result<(), AllocError> 
     feed.put(Token::Event {
         event: placed.event,
         base: 0,
-    })?;
-    feed.hold(event.total == feed.total())
+    });
+    feed.hold(event.total == feed.total());
 }
 
 // The end call behind a feed, made with `unread`. Its answer goes behind the feed's.
-pub fn end(feed: &mut Feed, unread: &[u8]) -> Result<EndResult, AllocError> {
+pub fn end(feed: &mut Feed, unread: &[u8]) -> EndResult {
     let ended = jxl_container::end(feed.parser, unread);
     let total = feed.total();
     match ended.answer {
         Ok(owed) => {
-            put_owed(feed, owed)?;
-            feed.hold(ended.next.total == total && stays_closed(ended.next))?;
+            put_owed(feed, owed);
+            feed.hold(ended.next.total == total && stays_closed(ended.next));
         }
         Err(refusal) => {
-            feed.put(Token::Refusal(refusal.rule))?;
-            feed.hold(refusal == due(feed))?;
-            feed.hold(ended.next.total == refusal.total && stays_refused(ended.next, refusal))?;
+            feed.put(Token::Refusal(refusal.rule));
+            feed.hold(refusal == due(feed));
+            feed.hold(ended.next.total == refusal.total && stays_refused(ended.next, refusal));
         }
     }
-    Ok(ended)
+    ended
 }
 
 #[cfg(test)]
 mod tests {
     use super::*;
     use box_answers::whole;
-    use std::test::Fail;
 
     // lines 7 to 9 of the stored list
     #[test]
-    fn a_bare_file_ends_with_nothing_owed(rt: HostRuntime) -> Result<(), Fail> {
-        let mut feed = whole(rt.alloc(), b"\xff\x0a", b"2")?;
-        end(&mut feed, b"")?;
-        assert_eq!(rt; feed.answer.as_str(), "Kb N C@0+2 |2 -");
-        Ok(())
+    fn a_bare_file_ends_with_nothing_owed(rt: HostRuntime) {
+        let mut feed = whole(b"\xff\x0a", b"2");
+        end(&mut feed, b"");
+        assert_eq!(rt; feed.answer.as_bytes(), b"Kb N C@0+2 |2 -".as_slice());
     }
 }

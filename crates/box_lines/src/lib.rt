@@ -2,18 +2,25 @@
 // lists and that run the pieces.
 #![tactic(auto)]
 
-ghost use Rattle.std.specs.Prelude.{◌≡◌, ◌≤◌, true, IfOk, vec_len, string_bytes};
+ghost use Rattle.std.specs.Prelude.{◌≡◌, ◌≤◌, true, length};
 ghost use Rattle.std.specs.Io.{StartsWith};
+ghost use Rattle.replay_text.specs.Held.{held};
 
 use jxl_events::ParseEvent;
 use jxl_record::BitstreamKind;
 use jxl_refusals::BoxRefusal;
-use replay_text::leading_number;
-use std::alloc::{AllocError, Global};
+use replay_text::{Bytes, leading_number};
 use std::fmt;
+use std::fmt::Write;
 
 // The bytes of a file, at most. The token of its end counts with them.
 pub const FILE_MOST: usize = 128;
+
+// The bytes of a line of tokens, at most.
+pub const LINE_MOST: usize = 1024;
+
+// The bytes of one token, at most: no token is longer.
+const TOKEN_MOST: usize = 64;
 
 // A token of a line.
 #[derive(Clone, Copy)]
@@ -86,27 +93,27 @@ impl fmt::Display for Token {
     }
 }
 
-// Puts a token behind those of a line, parted by a space. The line's text stays in front, where memory runs out too.
+// Puts a token behind those of a line, parted by a space, as far as there is room. The line's text stays in front.
 // By a text of its own: `write!` promises nothing of the line where a Display states no output.
-#[tactic(auto, using(crate::proofs::Front::whole, crate::proofs::Front::stays, crate::proofs::Front::stays_parted))]
-pub fn put(line: &mut String, token: Token) -> Result<(), AllocError>
-    ensures { StartsWith (string_bytes line.new) (string_bytes line.old) }
+pub fn put(line: &mut Bytes<LINE_MOST>, token: Token)
+    ensures { StartsWith (held line.new) (held line.old) }
 {
-    let text = token.to_string(*line.allocator())?;
-    if !line.is_empty() {
-        line.push(' ')?;
+    let mut text = Bytes::<TOKEN_MOST>::new();
+    let _ = write!(text, "{token}");
+    if !line.as_bytes().is_empty() {
+        line.push(b" ");
     }
-    line.push_str(&text)
+    line.push(text.as_bytes());
 }
 
 // Puts a mark where a rule that the lists do not spell out is not kept.
-pub fn hold(line: &mut String, is_kept: bool) -> Result<(), AllocError>
-    ensures { is_kept ≡ true → string_bytes line.new ≡ string_bytes line.old }
+pub fn hold(line: &mut Bytes<LINE_MOST>, is_kept: bool)
+    ensures { is_kept ≡ true → held line.new ≡ held line.old }
 {
     if is_kept {
-        return Ok(());
+        return;
     }
-    put(line, Token::Broken)
+    put(line, Token::Broken);
 }
 
 // The byte that two digits of hex tell; 0 for one that stands alone. Not `hex_byte` of field_lines: there a letter that is no digit counts
@@ -119,32 +126,33 @@ fn byte(digits: &[u8]) -> u8 {
 }
 
 // The bytes that a text of hex tells, as far as a file of the lists goes.
-pub fn file(alloc: Global, hex: &[u8]) -> Result<Vec<u8>, AllocError>
-    ensures { IfOk result (λ bytes. vec_len bytes ≤ 128) }
+pub fn file(hex: &[u8]) -> Bytes<FILE_MOST>
+    ensures { length (held result) ≤ 128 }
 {
-    hex.chunks(2).take(FILE_MOST).map(byte).collect(alloc)
+    let mut bytes = Bytes::new();
+    for digits in hex.chunks(2) {
+        bytes.push(&[byte(digits)]);
+    }
+    bytes
 }
 
 #[cfg(test)]
 mod tests {
     use super::*;
-    use std::test::Fail;
 
     #[test]
-    fn tokens_are_parted_by_spaces(rt: HostRuntime) -> Result<(), Fail> {
-        let mut line = String::new(rt.alloc());
-        put(&mut line, Token::Nothing)?;
-        put(&mut line, Token::PacketEnd(12))?;
-        hold(&mut line, true)?;
-        hold(&mut line, false)?;
-        assert_eq!(rt; line.as_str(), "- |12 !");
-        Ok(())
+    fn tokens_are_parted_by_spaces(rt: HostRuntime) {
+        let mut line = Bytes::new();
+        put(&mut line, Token::Nothing);
+        put(&mut line, Token::PacketEnd(12));
+        hold(&mut line, true);
+        hold(&mut line, false);
+        assert_eq!(rt; line.as_bytes(), b"- |12 !".as_slice());
     }
 
     #[test]
-    fn a_file_is_its_hex(rt: HostRuntime) -> Result<(), Fail> {
-        let bytes = file(rt.alloc(), b"ff0a5a")?;
-        assert_eq!(rt; bytes.as_slice(), [0xff, 0x0a, 0x5a].as_slice());
-        Ok(())
+    fn a_file_is_its_hex(rt: HostRuntime) {
+        let bytes = file(b"ff0a5a");
+        assert_eq!(rt; bytes.as_bytes(), [0xff, 0x0a, 0x5a].as_slice());
     }
 }

@@ -1,22 +1,25 @@
 // Field calls and their answers as lines of text, one call a line, in the language of the stored list of the Rust's answers.
 #![tactic(auto)]
 
-ghost use Rattle.std.specs.Prelude.{◌≡◌, ◌<◌, ◌≤◌, vec_len, IfOk};
+ghost use Rattle.std.specs.Prelude.{◌≡◌, ◌<◌, ◌≤◌, length};
+ghost use Rattle.replay_text.specs.Held.{held};
 
 use jxl_bitstream::{FieldRefusal, Moved, Read, Refused, U32Specifier};
-use replay_text::{digit_of, leading_number, skip};
-use std::alloc::{AllocError, Global};
+use replay_text::{Bytes, digit_of, leading_number, skip};
 use std::fmt;
+use std::fmt::Write;
 
 // The bytes of a buffer, at most.
-const BUFFER_MOST: usize = 32;
+pub const BUFFER_MOST: usize = 32;
+// The bytes of an answer's text, at most: no text is longer.
+pub const ANSWER_MOST: usize = 64;
 // The numbers of an enum's list, at most.
 const LIST_MOST: usize = 16;
 
 // The buffer that a line made, and the position that the calls on it have come to.
-#[derive(Drop)]
+#[derive(Clone, Copy)]
 pub struct Buffer {
-    pub bytes: Vec<u8>,
+    pub bytes: Bytes<BUFFER_MOST>,
     pub at: usize,
 }
 
@@ -47,17 +50,19 @@ impl fmt::Display for Name {
 }
 
 // An answer as the list tells it.
-fn answer_text(alloc: Global, answer: Read<Value>) -> Result<String, AllocError> {
-    match answer {
-        Ok((Value::Number(v), at)) => format!(in alloc; "{v} {at}"),
-        Ok((Value::Bits(v), at)) => format!(in alloc; "{v:08x} {at}"),
-        Ok((Value::Nothing, at)) => format!(in alloc; "{at}"),
-        Ok((Value::Sum(v), _)) => format!(in alloc; "{v:08x}"),
+fn answer_text(answer: Read<Value>) -> Bytes<ANSWER_MOST> {
+    let mut text = Bytes::new();
+    let _ = match answer {
+        Ok((Value::Number(v), at)) => write!(text, "{v} {at}"),
+        Ok((Value::Bits(v), at)) => write!(text, "{v:08x} {at}"),
+        Ok((Value::Nothing, at)) => write!(text, "{at}"),
+        Ok((Value::Sum(v), _)) => write!(text, "{v:08x}"),
         Err(Refused { refusal, at }) => {
             let name = Name(refusal);
-            format!(in alloc; "{name} {at}")
+            write!(text, "{name} {at}")
         }
-    }
+    };
+    text
 }
 
 // The f32's bits, or the refusal. An F16 that is given is a number.
@@ -112,23 +117,30 @@ fn call_u32(s: &[u8], at: usize, words: &[u8]) -> Read<u32> {
     jxl_bitstream::read_u32(s, at, [a, b, c, d])
 }
 
-// The numbers of a list with commas; `-` is the empty one. Split by hand, by what stands behind each number: a byte that is no comma
-// ends the list.
-fn numbers(alloc: Global, words: &[u8]) -> Result<Vec<u32>, AllocError> {
-    let mut list = Vec::new(alloc);
+// The numbers of a list with commas, at the front of an array, and how many they are; `-` is the empty list. Split by hand, by what stands
+// behind each number: a byte that is no comma ends the list.
+fn numbers(words: &[u8]) -> ([u32; LIST_MOST], usize)
+    ensures { result.1 ≤ 16 }
+{
+    let mut list = [0; LIST_MOST];
     if words.starts_with(b"-") {
-        return Ok(list);
+        return (list, 0);
     }
     let mut rest = words;
-    for _ in 0..LIST_MOST {
+    for (i, place) in list.iter_mut().enumerate() {
         let (x, behind) = leading_number(rest, 10);
-        list.push((x % 0x1_0000_0000) as u32)?;
+        *place = (x % 0x1_0000_0000) as u32;
         let Some(next) = behind.strip_prefix(b",") else {
-            break;
+            return (list, i + 1);
         };
         rest = next;
     }
-    Ok(list)
+    (list, LIST_MOST)
+}
+
+fn call_enum(s: &[u8], at: usize, words: &[u8]) -> Read<u32> {
+    let (list, count) = numbers(words);
+    jxl_bitstream::read_enum(s, at, &list[..count])
 }
 
 fn number<T: Into<u64>>(answer: Read<T>) -> Read<Value> {
@@ -146,22 +158,22 @@ fn f32_bits(answer: Read<u32>) -> Read<Value> {
 }
 
 // The call of a line, by its letter. One that is not named here asks for a checksum. A match and no table: calls differ in what they take.
-fn call(alloc: Global, s: &[u8], at: usize, line: &[u8]) -> Result<Read<Value>, AllocError> {
+fn call(s: &[u8], at: usize, line: &[u8]) -> Read<Value> {
     let words = skip(line, 2);
     let n = leading_number(words, 10).0 as usize;
-    Ok(match line.first().copied().unwrap_or(0) {
+    match line.first().copied().unwrap_or(0) {
         b'k' => number(jxl_bitstream::peek_bits(s, at, n)),
         b'r' => number(jxl_bitstream::read_bits(s, at, n)),
         b'c' => place(jxl_bitstream::consume_bits(s, at, n)),
         b's' => place(jxl_bitstream::skip_bits(s, at, n)),
         b'z' => place(jxl_bitstream::zero_pad_to_byte(s, at)),
         b'w' => number(call_u32(s, at, words)),
-        b'e' => number(jxl_bitstream::read_enum(s, at, &numbers(alloc, words)?)),
+        b'e' => number(call_enum(s, at, words)),
         b'q' => number(jxl_bitstream::read_u64(s, at)),
         b'b' => number(jxl_bitstream::read_bool(s, at)),
         b'f' => f32_bits(f16_bits(s, at)),
         _ => Ok((Value::Sum(checksum((n % 64) as u16)), at)),
-    })
+    }
 }
 
 // What a hexadecimal digit counts; any other byte counts 0.
@@ -182,52 +194,49 @@ fn hex_byte(pair: &[u8]) -> u8 {
 
 impl Buffer {
     // The buffer with no bytes.
-    pub fn empty(alloc: Global) -> Buffer
-        ensures { (vec_len result.bytes ≡ 0) × (result.at ≡ 0) }
+    pub fn empty() -> Buffer
+        ensures { (length (held result.bytes) ≡ 0) × (result.at ≡ 0) }
     {
         Buffer {
-            bytes: Vec::new(alloc),
+            bytes: Bytes::new(),
             at: 0,
         }
     }
 
     // The buffer that a line makes: two hexadecimal digits a byte, from the third place on.
-    pub fn from_line(alloc: Global, line: &[u8]) -> Result<Buffer, AllocError>
-        ensures { IfOk result (λ buffer. (vec_len buffer.bytes ≤ 32) × (buffer.at ≡ 0)) }
+    pub fn from_line(line: &[u8]) -> Buffer
+        ensures { (length (held result.bytes) ≤ 32) × (result.at ≡ 0) }
     {
-        let bytes = skip(line, 2)
-            .chunks(2)
-            .take(BUFFER_MOST)
-            .take_while(|pair| pair.first().is_some_and(|high| b'0' <= *high))
-            .map(hex_byte)
-            .collect(alloc)?;
-        Ok(Buffer { bytes, at: 0 })
+        let mut bytes = Bytes::new();
+        let pairs = skip(line, 2).chunks(2);
+        for pair in pairs.take_while(|pair| pair.first().is_some_and(|high| b'0' <= *high)) {
+            bytes.push(&[hex_byte(pair)]);
+        }
+        Buffer { bytes, at: 0 }
     }
 
     // Runs the call of a line, and answers the answer's text.
-    pub fn call(&mut self, alloc: Global, line: &[u8]) -> Result<String, AllocError>
-        ensures { self.new.bytes.items ≡ self.old.bytes.items }
+    pub fn call(&mut self, line: &[u8]) -> Bytes<ANSWER_MOST>
+        ensures { held self.new.bytes ≡ held self.old.bytes }
     {
-        let answer = call(alloc, &self.bytes, self.at, line)?;
+        let answer = call(self.bytes.as_bytes(), self.at, line);
         self.at = match answer {
             Ok((_, at)) => at,
             Err(refused) => refused.at,
         };
-        answer_text(alloc, answer)
+        answer_text(answer)
     }
 }
 
 #[cfg(test)]
 mod tests {
     use super::*;
-    use std::test::Fail;
 
     // the first two lines of the stored list
     #[test]
-    fn a_call_answers_as_the_rust(rt: HostRuntime) -> Result<(), Fail> {
-        let mut buffer = Buffer::from_line(rt.alloc(), b"n 32")?;
-        let answer = buffer.call(rt.alloc(), b"w c1 0+2 3+4 19+8 = 15 6")?;
-        assert_eq!(rt; answer.as_str(), "15 6");
-        Ok(())
+    fn a_call_answers_as_the_rust(rt: HostRuntime) {
+        let mut buffer = Buffer::from_line(b"n 32");
+        let answer = buffer.call(b"w c1 0+2 3+4 19+8 = 15 6");
+        assert_eq!(rt; answer.as_bytes(), b"15 6".as_slice());
     }
 }

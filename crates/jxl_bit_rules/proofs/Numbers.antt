@@ -3,13 +3,13 @@
 use mathlib.Core.List.{List, [], ◌∷◌}
 use mathlib.Core.Path.{◌≡◌, refl, sym, ap, ◌∙◌}
 use Prim.Native.Nat.{ℕ, zero, suc, ◌+◌, ◌-◌, ◌*◌, ◌/◌, ◌%◌, ◌^◌, ◌≤◌, ◌<◌}
-use native.Mathlib.Nat.{zero-div, div-one, one-mul}
+use native.Mathlib.Nat.{zero-div, div-one, one-mul, lt_of_lt_of_le, mod-lt}
 use native.Mathlib.Omega.{arith}
 use lib.Arith.{mod-mul}
 use lib.Bits.{bit_and, and_mask}
 use lib.Dec.{lit<}
 use lib.ListN.{get_or, drop}
-use lib.Pow.{shl_exact, shr-shr, field, mod-mod-pow}
+use lib.Pow.{shl_exact, shr-shr, field, mod-mod-pow, pow_pos, pow_mono}
 use Rattle.jxl_bit_rules.specs.Bits.{Bytes, number, bits}
 
 -- a byte, then the rest; beyond the end all is 0
@@ -87,3 +87,9 @@ masked x n small = ap (λ (p : ℕ). bit_and x (p - 1)) (one_at n small) ∙ and
 module _ (s : List ℕ) (h : Bytes s) (at n : ℕ) (small : n ≤ 32) (w : ℕ) (e : w ≡ number (drop (at / 8) s) % 2 ^ 64) where
   pub looked : bit_and (w / 2 ^ (at % 8)) (1 * 2 ^ n % 2 ^ 64 - 1) ≡ bits s at n
   looked = masked (w / 2 ^ (at % 8)) n small ∙ ap (λ (x : ℕ). x / 2 ^ (at % 8) % 2 ^ n) e ∙ from_eight s h at n small
+
+pub masked_fits : (x n : ℕ) → n ≤ 32 → bit_and x (1 * 2 ^ n % 2 ^ 64 - 1) < 2 ^ 32
+masked_fits x n small = rw (masked x n small) (lt_of_lt_of_le (mod-lt x (pow_pos n)) (pow_mono small))
+
+pub mask_there : (n : ℕ) → n ≤ 32 → 1 ≤ 1 * 2 ^ n % 2 ^ 64
+mask_there n small = rw (one_at n small) (pow_pos n)

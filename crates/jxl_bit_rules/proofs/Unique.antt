@@ -48,7 +48,7 @@ pub same_refused : (e : Refused) → back_refused (numbered e.refusal) (tells e.
 same_refused e = ap (λ (r : FieldRefusal). record { refusal = r; at = e.at }) (renamed e.refusal)
 
 -- an answer, from what is told of it
-abbrev back : {A : Type 0} → Answer A → Result (A × ℕ) Refused
+abbrev pub back : {A : Type 0} → Answer A → Result (A × ℕ) Refused
 back (gives a at) = Ok (a, at)
 back (refuses n t at) = Err (back_refused n t at)
 

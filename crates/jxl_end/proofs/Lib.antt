@@ -1,1 +1,3 @@
+mod Taking
 pub mod Unique
+pub mod Ruled

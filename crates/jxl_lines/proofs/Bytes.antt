@@ -4,8 +4,12 @@ use mathlib.Core.List.{List, [], ◌∷◌, ◌++◌, append_assoc}
 use Prim.Native.Nat.{ℕ, ◌+◌, ◌≤◌}
 use native.Mathlib.Omega.{arith}
 use lib.ListN.{length, take, drop, set, length-append, length-drop}
-use lib.Seq.{take_at, drop-append-add, drop-drop, length-take-le, sets, sets-eq}
+use lib.Seq.{take-length, take_at, drop-append-add, drop-drop, length-take-le, sets, sets-eq, paste}
 use Rattle.jxl_lines.specs.Pasting.{pasted, Pasted}
+
+-- a whole word copied in
+pub pasted_whole : (d : List ℕ) (at : ℕ) (w : List ℕ) → paste d at w (length w) ≡ pasted d at w
+pasted_whole d at w = ap (λ (l : List ℕ). take at d ++ l ++ drop (at + length w) d) (take-length w)
 
 -- bytes stored one by one, from k behind `at` on
 abbrev stored : List ℕ → ℕ → ℕ → List ℕ → List ℕ

@@ -9,7 +9,7 @@ use Rattle.jxl_record.specs.declared.BitstreamKind.{BitstreamKind}
 use Rattle.jxl_record.specs.declared.BitstreamKind.TheVariants as K
 use Rattle.jxl_events.specs.declared.ParseEvent.TheVariants as E
 use Rattle.jxl_lines.specs.Digits.{decimal}
-use Rattle.jxl_lines.specs.Lines.{kind_word, brob_word, end_word, stop, stop_word, text}
+use Rattle.jxl_lines.specs.Lines.{kind_word, brob_word, end_word, stop, stop_word, rest, text}
 use Rattle.jxl_lines.specs.Theorems.{MostBytes, LeastBytes}
 use Rattle.jxl_lines.specs.declared.StopWord.{StopWord}
 use Rattle.jxl_lines.specs.declared.StopWord.TheVariants.{Want, Refused1, Refused2, Limit, Done, CutShort, Closed}
@@ -54,11 +54,18 @@ data_size t a n = simp length-append (omega (arith, type_length t))
 pub end_size : (t : ℕ) → length (text (Shown (E.AuxBoxEnd t))) ≡ 13
 end_size t = simp length-append (omega (arith, type_length t))
 
+pub span_size : (a n : ℕ) → length (rest (decimal a ∷ decimal n ∷ [])) ≡ 3 + length (decimal a) + length (decimal n)
+span_size a n = simp length-append (omega arith)
+
 pub code_size : (a n : ℕ) → length (text (Shown (E.Codestream a n))) ≡ 7 + length (decimal a) + length (decimal n)
 code_size a n = simp length-append (omega arith)
 
 pub stop_size : (s : StopWord) (n : ℕ) → length (text (Stopped s n)) ≡ 7 + length (stop_word s) + length (decimal n)
 stop_size s n = simp length-append (omega arith)
+
+-- the start of a stop's line, and the whole of it
+pub stop_start_size : (s : StopWord) → length (stop ++ (9 ∷ (stop_word s ++ (9 ∷ [])))) ≡ 6 + length (stop_word s)
+stop_start_size s = simp length-append (omega arith)
 
 pub stop_text : (s : StopWord) (n : ℕ) → (stop ++ (9 ∷ (stop_word s ++ (9 ∷ [])))) ++ (decimal n ++ (10 ∷ [])) ≡ text (Stopped s n)
 stop_text s n = simp append_assoc

@@ -223,6 +223,10 @@ module _ (p : ContainerParser) (f : List ℕ) where
       → next_of p (drop p.total f) ≡ next_end (end_of q (drop q.total f))
   stops_refusing {r} {q} {c} st = stops_behind q c (refuses_counts p (drop p.total f) st).0 (ap (next_in (drop p.total f)) st)
 
+-- the end call on the bytes from k on
+pub far_end : (p : ContainerParser) (s : List ℕ) (k : ℕ) → end_of p (take (length s - k) (drop k s)) ≡ end_of p (drop k s)
+far_end p s k = ap (end_of p) (take_all (length s - k) (drop k s) (omega (arith, length-drop k s)))
+
 -- the lines of two rows of events
 pub texts_append : (xs ys : List ParseEvent) → texts (xs ++ ys) ≡ texts xs ++ texts ys
 texts_append [] ys = refl

@@ -11,7 +11,7 @@ use Rattle.jxl_results.specs.Results.{result_at}
 use Rattle.jxl_results.specs.Theorems.{OneAt, OneU32, OneBool, OneUnit, OneU64, OneF32, OneSplit, OneSplitU32, OneSplitBool, OneSplitUnit, OneSplitU64, OneSplitF32}
 
 -- a result and its position, from what they answer
-abbrev both : {A : Type 0} → Answer A → Result A FieldRefusal × ℕ
+abbrev pub both : {A : Type 0} → Answer A → Result A FieldRefusal × ℕ
 both (gives a at) = (Ok a, at)
 both (refuses n t at) = (Err (named n t), at)
 

@@ -4,15 +4,10 @@
 #![tactic(auto)]
 
 use box_lines::FILE_MOST;
-use replay_text::{Tally, lines, read_input, skip, split_once};
-use std::alloc::{AllocError, Global};
-use std::io;
+use replay_text::{Bytes, Tally, lines, read_input, skip, split_once};
 
 // The bytes of the list that are read, at most.
-const INPUT_MOST: u64 = 1_048_576;
-
-// The bytes of a feeding's answers that are compared, at most.
-const ANSWERS_MOST: usize = 1024;
+const INPUT_MOST: usize = 1_048_576;
 
 // A token with the refusals 10 to 19 merged into 1, since the Rust does not tell them apart.
 fn merged(token: &[u8]) -> &[u8] {
@@ -24,8 +19,7 @@ fn merged(token: &[u8]) -> &[u8] {
 
 // Whether the answers of a feeding are the line's EVENTS.
 fn is_told(answers: &[u8], told: &[u8]) -> bool {
-    let compared = answers.get(..ANSWERS_MOST).unwrap_or(answers);
-    compared
+    answers
         .split(|b| *b == b' ')
         .map(merged)
         .eq(told.split(|b| *b == b' '))
@@ -42,21 +36,15 @@ fn is_end(answer: &[u8], token: &[u8]) -> bool {
 }
 
 // Whether feeding the file in these packets gives these EVENTS, and ending it then, with the bytes left unread, what the token says.
-fn agrees(
-    alloc: Global,
-    cuts: &[u8],
-    told: &[u8],
-    file: &[u8],
-    token: &[u8],
-) -> Result<bool, AllocError> {
-    let mut feed = box_answers::whole(alloc, file, cuts)?;
+fn agrees(cuts: &[u8], told: &[u8], file: &[u8], token: &[u8]) -> bool {
+    let mut feed = box_answers::whole(file, cuts);
     if !is_told(feed.answer.as_bytes(), told) {
-        return Ok(false);
+        return false;
     }
     feed.answer.clear();
     let unread = feed.unread(file);
-    box_ends::end(&mut feed, unread)?;
-    Ok(is_end(feed.answer.as_bytes(), token))
+    box_ends::end(&mut feed, unread);
+    is_end(feed.answer.as_bytes(), token)
 }
 
 // The token of a file's end in its line `e`, as far as there is room for it with the file.
@@ -73,32 +61,38 @@ fn cuts_and_events(line: &[u8]) -> (&[u8], &[u8]) {
     (cuts, skip(behind, 1))
 }
 
+// Room for the list. Made in a function of its own, so that no proof looks into its elements.
+fn room() -> [u8; INPUT_MOST] {
+    [0; INPUT_MOST]
+}
+
 // Goes through the list, line by line: a new file, whose end is not told yet; what the end of the newest comes to; or a feeding of it,
 // `CUTS = EVENTS`, whose answers are as many as its events, which single spaces part, and one more for its end.
-fn main(rt: HostRuntime) -> io::Result<()> {
-    let text = read_input(&rt, INPUT_MOST)?;
+fn main(rt: HostRuntime) {
+    let mut room = room();
+    let text = read_input(&rt, &mut room);
     let mut tally = Tally::default();
     let mut answers: u64 = 0;
-    let mut file = Vec::new(rt.alloc());
+    let mut file = Bytes::new();
     let mut token: &[u8] = b"";
-    for line in lines(&text) {
+    for line in lines(text) {
         tally.pass_line();
         match line {
             [b'f', ..] => {
-                file = box_lines::file(rt.alloc(), skip(line, 2))?;
+                file = box_lines::file(skip(line, 2));
                 token = b"";
             }
-            [b'e', ..] => token = token_of(line, &file),
+            [b'e', ..] => token = token_of(line, file.as_bytes()),
             _ => {
                 let (cuts, told) = cuts_and_events(line);
                 let count = told.split(|b| *b == b' ').count() as u64;
                 answers = answers.saturating_add(count).saturating_add(1);
-                tally.compare(&rt, agrees(rt.alloc(), cuts, told, &file, token)?)?;
+                tally.compare(&rt, agrees(cuts, told, file.as_bytes(), token));
             }
         }
     }
-    println!(rt;
+    let _ = println!(rt;
         "{answers} answers in {} feedings and their ends compared, {} feedings differ",
         tally.compared, tally.differ
-    )
+    );
 }

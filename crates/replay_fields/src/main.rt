@@ -1,34 +1,42 @@
 // Replays the stored list of the Rust's answers (standard input) on the proved fields, and says how many answers differ.
 #![tactic(auto)]
 
+ghost use Rattle.std.specs.Prelude.{◌≡◌, length};
+
 use field_lines::Buffer;
 use replay_text::{Tally, lines, read_input, split_once};
-use std::io;
 
 // The bytes of a list that are read, at most.
-const INPUT_MOST: u64 = 1_048_576;
+const INPUT_MOST: usize = 1_048_576;
 
 // Whether the line's answer, behind its `= `, is this text.
-fn is_told(line: &[u8], text: &str) -> bool {
+fn is_told(line: &[u8], text: &[u8]) -> bool {
     let Some((_, behind)) = split_once(line, b'=') else {
         return false;
     };
-    behind.get(1..) == Some(text.as_bytes())
+    behind.get(1..) == Some(text)
 }
 
-fn main(rt: HostRuntime) -> io::Result<()> {
-    let alloc = rt.alloc();
-    let text = read_input(&rt, INPUT_MOST)?;
+// Room for the list. Made in a function of its own, so that no proof looks into its elements.
+fn room() -> [u8; INPUT_MOST]
+    ensures { 1048576 ≡ length result }
+{
+    [0; INPUT_MOST]
+}
+
+fn main(rt: HostRuntime) {
+    let mut room = room();
+    let text = read_input(&rt, &mut room);
     let mut tally = Tally::default();
-    let mut buffer = Buffer::empty(alloc);
-    for line in lines(&text) {
+    let mut buffer = Buffer::empty();
+    for line in lines(text) {
         tally.pass_line();
         if line.starts_with(b"n") {
-            buffer = Buffer::from_line(alloc, line)?;
+            buffer = Buffer::from_line(line);
         } else {
-            let answer = buffer.call(alloc, line)?;
-            tally.compare(&rt, is_told(line, answer.as_str()))?;
+            let answer = buffer.call(line);
+            tally.compare(&rt, is_told(line, answer.as_bytes()));
         }
     }
-    println!(rt; "{tally}")
+    let _ = println!(rt; "{tally}");
 }

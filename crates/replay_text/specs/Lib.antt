@@ -1,2 +1,3 @@
+pub mod Held
 pub mod Lines
 pub mod Numbers

@@ -2,19 +2,91 @@
 // the answers compared. Nothing is asked of a caller.
 #![tactic(auto)]
 
-ghost use Rattle.std.specs.Prelude.{◌≡◌, ◌+◌, ◌-◌, ◌^◌, ◌<◌, ◌==◌, ◌++◌, ◌∷◌, length, min, take, drop, position, codes, decimal, Some, None, IfSome, MatchOption, MatchBool};
+ghost use Rattle.std.specs.Prelude.{◌≡◌, ◌+◌, ◌-◌, ◌^◌, ◌<◌, ◌==◌, ◌++◌, ◌∷◌, ◌≤◌, [], length, min, take, drop, position, codes, decimal, Some, None, IsOk, IfSome, MatchOption, MatchBool};
 ghost use Rattle.std.specs.Iterator.{at_most};
+ghost use Rattle.replay_text.specs.Held.{held, shown};
 ghost use Rattle.replay_text.specs.Lines.{IsNextLine};
 ghost use Rattle.replay_text.specs.Numbers.{digit, appended, number};
 
+use std::fmt;
 use std::io::Read;
-use std::{fmt, io};
 
-// Standard input, as far as `most` bytes.
-pub fn read_input(rt: &(impl Input + AllocGlobal), most: u64) -> io::Result<Vec<u8>> {
-    let mut text = Vec::new(rt.alloc());
-    rt.reader().take(most).read_to_end(&mut text)?;
-    Ok(text)
+// Standard input at the front of `room`, as far as that goes. Where it cannot be read it ends.
+pub fn read_input<'r>(rt: &impl Input, room: &'r mut [u8]) -> &'r [u8] {
+    let mut reader = rt.reader();
+    let mut len = 0;
+    while len < room.len() {
+        match reader.read(&mut room[len..]) {
+            Ok(0) | Err(_) => break,
+            Ok(count) => len += count,
+        }
+    }
+    &room[..len]
+}
+
+// Bytes in place, of which there are N at most: what has no room is left out.
+#[derive(Clone, Copy)]
+pub struct Bytes<const N: usize> {
+    bytes: [u8; N],
+    len: usize,
+}
+
+impl<const N: usize> Bytes<N> {
+    pub fn new() -> Self
+        ensures { held result ≡ [] }
+    {
+        Bytes {
+            bytes: [0; N],
+            len: 0,
+        }
+    }
+
+    pub fn as_bytes(&self) -> &[u8]
+        ensures value { result.now ≡ held self.now }
+        ensures most { length result.now ≤ N }
+    {
+        &self.bytes[..self.len.min(N)]
+    }
+
+    pub fn clear(&mut self)
+        ensures { held self.new ≡ [] }
+    {
+        self.len = 0;
+    }
+
+    // Puts bytes behind those that are there.
+    pub fn push(&mut self, more: &[u8])
+        ensures bytes { held self.new ≡ take N (held self.old ++ more.now) }
+        ensures most { length (held self.new) ≤ N }
+    {
+        let start = self.len.min(N);
+        let count = more.len().min(N - start);
+        let all = &mut self.bytes[..];
+        all[start..start + count].copy_from_slice(&more[..count]);
+        self.len = start + count;
+    }
+}
+
+// What is written is put behind, which cannot fail.
+impl<const N: usize> fmt::Write for Bytes<N> {
+    ghost write_str_gives = { λ s text t. held t ≡ take N (held s ++ text) };
+
+    fn write_str(&mut self, s: &str) -> fmt::Result
+        ensures ok { IsOk result → held self.new ≡ take N (held self.old ++ s.now) }
+        ensures done { IsOk result }
+    {
+        self.push(s.as_bytes());
+        Ok(())
+    }
+}
+
+// The bytes as text; where they are no UTF-8, nothing.
+impl<const N: usize> fmt::Display for Bytes<N> {
+    ghost output = { λ b. Some (shown b) };
+
+    fn fmt<W: fmt::Write>(&self, f: &mut fmt::Formatter<W>) -> fmt::Result {
+        f.pad(str::from_utf8(self.as_bytes()).unwrap_or(""))
+    }
 }
 
 // The first place of `b`.
@@ -129,21 +201,21 @@ impl Tally {
         self.lines = self.lines.saturating_add(1);
     }
 
-    // Counts the answer of the newest line. Prints the line's number where it differs, for the first ten.
-    pub fn compare(&mut self, rt: &impl Print, agrees: bool) -> io::Result<()>
+    // Counts the answer of the newest line. Prints the line's number where it differs, for the first ten; where it cannot be written, the
+    // count goes on.
+    pub fn compare(&mut self, rt: &impl Print, agrees: bool)
         ensures lines { self.new.lines ≡ self.old.lines }
         ensures compared { self.new.compared ≡ min (self.old.compared + 1) (2 ^ 64 - 1) }
         ensures differ { MatchBool agrees (self.new.differ ≡ self.old.differ) (self.new.differ ≡ min (self.old.differ + 1) (2 ^ 64 - 1)) }
     {
         self.compared = self.compared.saturating_add(1);
         if agrees {
-            return Ok(());
+            return;
         }
         self.differ = self.differ.saturating_add(1);
         if self.differ <= 10 {
-            println!(rt; "line {} differs", self.lines)?;
+            let _ = println!(rt; "line {} differs", self.lines);
         }
-        Ok(())
     }
 }
 

@@ -3,10 +3,9 @@
 #![tactic(auto)]
 
 use replay_text::{Tally, leading_number, lines, read_input, skip};
-use std::io;
 
 // The bytes of a list that are read, at most.
-const INPUT_MOST: u64 = 65_536;
+const INPUT_MOST: usize = 65_536;
 
 // The number that a text tells: its digits, behind a `-` where it is below 0.
 fn told_number(told: &[u8]) -> Option<i64> {
@@ -36,12 +35,18 @@ fn is_same(line: &[u8]) -> bool {
     told_number(skip(behind, 1)) == Some(answer)
 }
 
-fn main(rt: HostRuntime) -> io::Result<()> {
-    let text = read_input(&rt, INPUT_MOST)?;
+// Room for the list. Made in a function of its own, so that no proof looks into its elements.
+fn room() -> [u8; INPUT_MOST] {
+    [0; INPUT_MOST]
+}
+
+fn main(rt: HostRuntime) {
+    let mut room = room();
+    let text = read_input(&rt, &mut room);
     let mut tally = Tally::default();
-    for line in lines(&text) {
+    for line in lines(text) {
         tally.pass_line();
-        tally.compare(&rt, is_same(line))?;
+        tally.compare(&rt, is_same(line));
     }
-    println!(rt; "{tally}")
+    let _ = println!(rt; "{tally}");
 }
