@@ -5,7 +5,7 @@ ghost use Rattle.std.specs.Prelude.{◌≡◌, ◌+◌, ◌%◌, ◌^◌, None, 
 ghost use Rattle.jxl_slices.specs.Part.{between};
 ghost use Rattle.replay_text.specs.Held.{held};
 
-use box_lines::{LINE_MOST, Token};
+use box_lines::Token;
 use jxl_container::{
     BitstreamKind, BoxRefusal, ContainerParser, FileEvent, FileRefusal, ParseEvent, StepResult,
 };
@@ -13,10 +13,10 @@ use jxl_slices::part;
 use replay_text::{Bytes, leading_number};
 
 // A feed: its answer so far, the record, the record's total at the start and the bytes consumed since, counted here, the kind that an event
-// told, and where the last step refused, or answered Closed, that refusal.
+// told, and where the last step refused, or answered Closed, that refusal. The answer has N bytes at most: what has no room is left out.
 #[derive(Clone, Copy)]
-pub struct Feed {
-    pub answer: Bytes<LINE_MOST>,
+pub struct Feed<const N: usize> {
+    pub answer: Bytes<N>,
     pub parser: ContainerParser,
     pub from: u64,
     pub consumed: usize,
@@ -58,9 +58,9 @@ pub fn is_repeated(refused: ContainerParser, input: &[u8], first: FileRefusal) -
     )
 }
 
-impl Feed {
+impl<const N: usize> Feed<N> {
     // The start of a feed: a record, nothing consumed, no answer yet.
-    pub fn new(parser: ContainerParser) -> Feed
+    pub fn new(parser: ContainerParser) -> Self
         ensures { (result.parser ≡ parser) × (result.consumed ≡ 0) × (result.refusal ≡ None) }
     {
         Feed {
@@ -198,7 +198,7 @@ impl Feed {
 }
 
 // The file fed in packets of the lengths `cuts`, nothing after a refusal.
-pub fn whole(file: &[u8], cuts: &[u8]) -> Feed {
+pub fn whole<const N: usize>(file: &[u8], cuts: &[u8]) -> Feed<N> {
     let mut feed = Feed::new(ContainerParser::new());
     let mut end = 0usize;
     for cut in cuts.split_inclusive(|b| *b == b',') {
@@ -218,13 +218,29 @@ mod tests {
     // lines 7 and 10 of the stored list
     #[test]
     fn a_bare_file_comes_in_two_packets(rt: HostRuntime) {
-        let feed = whole(b"\xff\x0a", b"1,1");
+        let feed = whole::<64>(b"\xff\x0a", b"1,1");
         assert_eq!(rt; feed.answer.as_bytes(), b"|0 Kb N C@0+2 |2".as_slice());
+    }
+
+    // a byte in the first packet, the other in the second, and 498 packets with nothing in them: an answer longer than those of the programs
+    #[test]
+    fn an_answer_is_as_long_as_its_bound(rt: HostRuntime) {
+        let mut cuts = Bytes::<1000>::new();
+        cuts.push(b"1,1");
+        for _ in 0..498 {
+            cuts.push(b",0");
+        }
+        let feed = whole::<2048>(b"\xff\x0a", cuts.as_bytes());
+        assert_eq!(rt; feed.answer.as_bytes().len(), 16 + 498 * 3);
+        assert!(rt; feed.answer.as_bytes().ends_with(b" |2 |2"));
+        let short = whole::<4>(b"\xff\x0a", b"1,1");
+        assert_eq!(rt; short.answer.as_bytes(), b"|0 K".as_slice());
+        assert_eq!(rt; short.consumed, 2);
     }
 
     #[test]
     fn a_turn_shows_the_kind(rt: HostRuntime) {
-        let mut feed = Feed::new(ContainerParser::new());
+        let mut feed = Feed::<64>::new(ContainerParser::new());
         let shown = feed.turn(b"\xff\x0a", 2);
         assert!(rt; shown);
         feed.hold(false);

@@ -42,7 +42,7 @@ fn stays_refused(ended: ContainerParser, first: FileRefusal) -> bool {
 }
 
 // The refusal that an end behind the feed may give: the one that the feed ended with, or else CutShort, at the bytes consumed.
-fn due(feed: &Feed) -> FileRefusal {
+fn due<const N: usize>(feed: &Feed<N>) -> FileRefusal {
     let total = feed.total();
     feed.refusal.unwrap_or(FileRefusal {
         rule: BoxRefusal::CutShort,
@@ -52,7 +52,7 @@ fn due(feed: &Feed) -> FileRefusal {
 }
 
 // Puts the event that is owed, at its place in the file, or that none is, and a mark where it carries another total.
-fn put_owed(feed: &mut Feed, owed: Option<FileEvent>) {
+fn put_owed<const N: usize>(feed: &mut Feed<N>, owed: Option<FileEvent>) {
     let Some(event) = owed else {
         return feed.put(Token::Nothing);
     };
@@ -65,7 +65,7 @@ fn put_owed(feed: &mut Feed, owed: Option<FileEvent>) {
 }
 
 // The end call behind a feed, made with `unread`. Its answer goes behind the feed's.
-pub fn end(feed: &mut Feed, unread: &[u8]) -> EndResult {
+pub fn end<const N: usize>(feed: &mut Feed<N>, unread: &[u8]) -> EndResult {
     let ended = jxl_container::end(feed.parser, unread);
     let total = feed.total();
     match ended.answer {
@@ -90,7 +90,7 @@ mod tests {
     // lines 7 to 9 of the stored list
     #[test]
     fn a_bare_file_ends_with_nothing_owed(rt: HostRuntime) {
-        let mut feed = whole(b"\xff\x0a", b"2");
+        let mut feed = whole::<64>(b"\xff\x0a", b"2");
         end(&mut feed, b"");
         assert_eq!(rt; feed.answer.as_bytes(), b"Kb N C@0+2 |2 -".as_slice());
     }

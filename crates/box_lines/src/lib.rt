@@ -16,7 +16,7 @@ use std::fmt::Write;
 // The bytes of a file, at most. The token of its end counts with them.
 pub const FILE_MOST: usize = 128;
 
-// The bytes of a line of tokens, at most.
+// The bytes of a line of tokens, at most, in the programs. `put` and `hold` take a line of any bound.
 pub const LINE_MOST: usize = 1024;
 
 // The bytes of one token, at most: no token is longer.
@@ -95,7 +95,7 @@ impl fmt::Display for Token {
 
 // Puts a token behind those of a line, parted by a space, as far as there is room. The line's text stays in front.
 // By a text of its own: `write!` promises nothing of the line where a Display states no output.
-pub fn put(line: &mut Bytes<LINE_MOST>, token: Token)
+pub fn put<const N: usize>(line: &mut Bytes<N>, token: Token)
     ensures { StartsWith (held line.new) (held line.old) }
 {
     let mut text = Bytes::<TOKEN_MOST>::new();
@@ -107,7 +107,7 @@ pub fn put(line: &mut Bytes<LINE_MOST>, token: Token)
 }
 
 // Puts a mark where a rule that the lists do not spell out is not kept.
-pub fn hold(line: &mut Bytes<LINE_MOST>, is_kept: bool)
+pub fn hold<const N: usize>(line: &mut Bytes<N>, is_kept: bool)
     ensures { is_kept ≡ true → held line.new ≡ held line.old }
 {
     if is_kept {
@@ -142,12 +142,28 @@ mod tests {
 
     #[test]
     fn tokens_are_parted_by_spaces(rt: HostRuntime) {
-        let mut line = Bytes::new();
+        let mut line = Bytes::<LINE_MOST>::new();
         put(&mut line, Token::Nothing);
         put(&mut line, Token::PacketEnd(12));
         hold(&mut line, true);
         hold(&mut line, false);
         assert_eq!(rt; line.as_bytes(), b"- |12 !".as_slice());
+    }
+
+    // longer than the lines of the programs, and a line with room for one token
+    #[test]
+    fn a_line_is_as_long_as_its_bound(rt: HostRuntime) {
+        let mut long = Bytes::<2000>::new();
+        for _ in 0..500 {
+            put(&mut long, Token::PacketEnd(12));
+        }
+        assert_eq!(rt; long.as_bytes().len(), 1999);
+        hold(&mut long, false);
+        assert_eq!(rt; long.as_bytes().len(), 2000);
+        let mut short = Bytes::<3>::new();
+        put(&mut short, Token::PacketEnd(12));
+        put(&mut short, Token::Nothing);
+        assert_eq!(rt; short.as_bytes(), b"|12".as_slice());
     }
 
     #[test]

@@ -9,7 +9,7 @@ use replay_text::{Bytes, digit_of, leading_number, skip};
 use std::fmt;
 use std::fmt::Write;
 
-// The bytes of a buffer, at most.
+// The bytes of a buffer that a line makes, at most.
 pub const BUFFER_MOST: usize = 32;
 // The bytes of an answer's text, at most: no text is longer.
 pub const ANSWER_MOST: usize = 64;
@@ -20,6 +20,13 @@ const LIST_MOST: usize = 16;
 #[derive(Clone, Copy)]
 pub struct Buffer {
     pub bytes: Bytes<BUFFER_MOST>,
+    pub at: usize,
+}
+
+// Lent bytes, as many as there are, and the position that the calls on them have come to.
+#[derive(Clone, Copy)]
+pub struct LentBuffer<'b> {
+    pub bytes: &'b [u8],
     pub at: usize,
 }
 
@@ -219,7 +226,22 @@ impl Buffer {
     pub fn call(&mut self, line: &[u8]) -> Bytes<ANSWER_MOST>
         ensures { held self.new.bytes ≡ held self.old.bytes }
     {
-        let answer = call(self.bytes.as_bytes(), self.at, line);
+        let mut lent = LentBuffer {
+            bytes: self.bytes.as_bytes(),
+            at: self.at,
+        };
+        let text = lent.call(line);
+        self.at = lent.at;
+        text
+    }
+}
+
+impl LentBuffer<'_> {
+    // Runs the call of a line, and answers the answer's text.
+    pub fn call(&mut self, line: &[u8]) -> Bytes<ANSWER_MOST>
+        ensures { self.new.bytes.now ≡ self.old.bytes.now }
+    {
+        let answer = call(self.bytes, self.at, line);
         self.at = match answer {
             Ok((_, at)) => at,
             Err(refused) => refused.at,
@@ -238,5 +260,19 @@ mod tests {
         let mut buffer = Buffer::from_line(b"n 32");
         let answer = buffer.call(b"w c1 0+2 3+4 19+8 = 15 6");
         assert_eq!(rt; answer.as_bytes(), b"15 6".as_slice());
+    }
+
+    // more bytes than a line makes
+    #[test]
+    fn a_call_reads_what_is_lent(rt: HostRuntime) {
+        let mut bytes = [0; 100];
+        bytes[99] = 0x5a;
+        let mut lent = LentBuffer {
+            bytes: &bytes,
+            at: 792,
+        };
+        let answer = lent.call(b"r 8");
+        assert_eq!(rt; answer.as_bytes(), b"90 800".as_slice());
+        assert_eq!(rt; lent.at, 800);
     }
 }

@@ -1,6 +1,5 @@
 // Pieces of the end: what the end call comes to behind a feed, and what the record that it leaves answers then.
-use crate::Piece;
-use box_answers::Feed;
+use crate::{Feed, Piece};
 use box_records::Record;
 use jxl_container::{ContainerParser, EndResult};
 

@@ -3,7 +3,7 @@
 // codestream boxes, total and newest header, and of a record that takes no more the text that says why and the place that it names.
 #![tactic(auto)]
 
-use box_answers::Feed;
+use box_lines::LINE_MOST;
 use box_records::Record;
 use jxl_container::ContainerParser;
 use replay_text::{leading_number, lines, read_input, split_once};
@@ -11,6 +11,9 @@ use std::io;
 use std::io::Write;
 
 mod ends;
+
+// A feed whose answer is as long as a line of tokens, at most.
+type Feed = box_answers::Feed<LINE_MOST>;
 
 // The bytes of the list that are read, at most.
 const INPUT_MOST: usize = 16_384;

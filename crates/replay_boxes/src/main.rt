@@ -3,7 +3,7 @@
 // with what the judge says in the file's line `e`. Prints the numbers of the first lines that differ, then the counts.
 #![tactic(auto)]
 
-use box_lines::FILE_MOST;
+use box_lines::{FILE_MOST, LINE_MOST};
 use replay_text::{Bytes, Tally, lines, read_input, skip, split_once};
 
 // The bytes of the list that are read, at most.
@@ -37,7 +37,7 @@ fn is_end(answer: &[u8], token: &[u8]) -> bool {
 
 // Whether feeding the file in these packets gives these EVENTS, and ending it then, with the bytes left unread, what the token says.
 fn agrees(cuts: &[u8], told: &[u8], file: &[u8], token: &[u8]) -> bool {
-    let mut feed = box_answers::whole(file, cuts);
+    let mut feed = box_answers::whole::<LINE_MOST>(file, cuts);
     if !is_told(feed.answer.as_bytes(), told) {
         return false;
     }

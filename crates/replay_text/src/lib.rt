@@ -2,14 +2,17 @@
 // the answers compared. Nothing is asked of a caller.
 #![tactic(auto)]
 
-ghost use Rattle.std.specs.Prelude.{◌≡◌, ◌+◌, ◌-◌, ◌^◌, ◌<◌, ◌==◌, ◌++◌, ◌∷◌, ◌≤◌, [], length, min, take, drop, position, codes, decimal, Some, None, IsOk, IfSome, MatchOption, MatchBool};
+ghost use Rattle.std.specs.Prelude.{◌≡◌, ◌≢◌, ◌+◌, ◌-◌, ◌^◌, ◌<◌, ◌==◌, ◌++◌, ◌∷◌, ◌≤◌, [], length, min, take, drop, position, codes, decimal, Some, None, IsOk, IfOk, IfErr, IfSome, MatchOption, MatchBool};
+ghost use Rattle.std.specs.Io.{ReadsAtMost};
+ghost use Rattle.std.specs.Io.KnownBytes.{Consumes, IsAtEnd};
+ghost use Rattle.std.specs.IoError.{error_kind};
 ghost use Rattle.std.specs.Iterator.{at_most};
 ghost use Rattle.replay_text.specs.Held.{held, shown};
 ghost use Rattle.replay_text.specs.Lines.{IsNextLine};
 ghost use Rattle.replay_text.specs.Numbers.{digit, appended, number};
 
-use std::fmt;
-use std::io::Read;
+use std::io::{ErrorKind, Read};
+use std::{fmt, io};
 
 // Standard input at the front of `room`, as far as that goes. Where it cannot be read it ends.
 pub fn read_input<'r>(rt: &impl Input, room: &'r mut [u8]) -> &'r [u8] {
@@ -22,6 +25,29 @@ pub fn read_input<'r>(rt: &impl Input, room: &'r mut [u8]) -> &'r [u8] {
         }
     }
     &room[..len]
+}
+
+// Reads into `room` up to its end or the reader's, and answers how many bytes there are. A read that is interrupted is tried again; one that
+// fails is told. A proved loop has to end: where 2^64 - 1 reads were not enough, that is told too.
+pub fn read_full<R: Read>(reader: &mut R, room: &mut [u8]) -> io::Result<usize>
+    ensures bound { ReadsAtMost result room.new }
+    ensures bytes { IfOk result (λ count. Consumes (R.remaining reader.old) (R.remaining reader.new) (take count room.new)) }
+    ensures end { IfOk result (λ count. count < length room.new → IsAtEnd (R.remaining reader.new)) }
+    ensures retried { IfErr result (λ e. error_kind e ≢ ErrorKind.Interrupted) }
+{
+    let mut at = 0;
+    for _ in 0..u64::MAX {
+        if at >= room.len() {
+            return Ok(at);
+        }
+        match reader.read(&mut room[at..]) {
+            Ok(0) => return Ok(at),
+            Ok(count) => at += count,
+            Err(e) if e.kind() == ErrorKind::Interrupted => {}
+            Err(e) => return Err(e),
+        }
+    }
+    Err(io::Error::from(ErrorKind::TimedOut))
 }
 
 // Bytes in place, of which there are N at most: what has no room is left out.
@@ -228,5 +254,63 @@ impl fmt::Display for Tally {
             "{} answers compared, {} differ",
             self.compared, self.differ
         )
+    }
+}
+
+#[cfg(test)]
+mod tests {
+    use super::*;
+    use std::test::Fail;
+
+    // A reader of at most two bytes a read, which is interrupted before each, and fails where it has no more and is to fail.
+    #[derive(Drop)]
+    struct Pieces<'s> {
+        rest: &'s [u8],
+        interrupted: bool,
+        fails: bool,
+    }
+
+    impl Read for Pieces<'_> {
+        fn read(&mut self, buf: &mut [u8]) -> io::Result<usize> {
+            self.interrupted = !self.interrupted;
+            if self.interrupted {
+                return Err(io::Error::from(ErrorKind::Interrupted));
+            }
+            if self.rest.is_empty() && self.fails {
+                return Err(io::Error::from(ErrorKind::NotConnected));
+            }
+            let count = self.rest.len().min(buf.len()).min(2);
+            buf[..count].copy_from_slice(&self.rest[..count]);
+            self.rest = &self.rest[count..];
+            Ok(count)
+        }
+    }
+
+    fn in_pieces(rest: &[u8], fails: bool) -> Pieces<'_> {
+        Pieces {
+            rest,
+            interrupted: false,
+            fails,
+        }
+    }
+
+    #[test]
+    fn an_interrupted_read_is_tried_again(rt: HostRuntime) -> Result<(), Fail> {
+        let mut reader = in_pieces(b"abcde", false);
+        let mut room = [0; 3];
+        assert_eq!(rt; read_full(&mut reader, &mut room)?, 3);
+        assert_eq!(rt; room, *b"abc");
+        assert_eq!(rt; read_full(&mut reader, &mut room)?, 2);
+        assert_eq!(rt; room, *b"dec");
+        assert_eq!(rt; read_full(&mut reader, &mut room)?, 0);
+        Ok(())
+    }
+
+    #[test]
+    fn a_failed_read_is_told(rt: HostRuntime) {
+        let mut reader = in_pieces(b"abc", true);
+        let mut room = [0; 8];
+        let told = read_full(&mut reader, &mut room);
+        assert!(rt; told.is_err_and(|e| e.kind() == ErrorKind::NotConnected));
     }
 }

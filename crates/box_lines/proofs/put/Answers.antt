@@ -6,10 +6,10 @@ use Rattle.box_lines.proofs.put.Goals as goal
 use Rattle.box_lines.proofs.put.Goals.{then-not-is_empty, else-not-is_empty}
 
 pub returns : goal.returns
-returns c =
-    let within : length (held c.args.line.now) ≤ 1024 = omega (arith, ap length c.as_bytes.ensures.value) in
+returns g c =
+    let within : length (held c.args.line.now) ≤ g.row.N = omega (arith, ap length c.as_bytes.ensures.value) in
     rw c.push-2.ensures.bytes
     (elim c.if-not-is_empty.branch [
-      | then-not-is_empty w ↦ rw (w.line-is, w.push.ensures.bytes) (stays_parted 1024 _ _ _ within)
-      | else-not-is_empty w ↦ rw w.line-is (stays 1024 _ _ within)
+      | then-not-is_empty w ↦ rw (w.line-is, w.push.ensures.bytes) (stays_parted g.row.N _ _ _ within)
+      | else-not-is_empty w ↦ rw w.line-is (stays g.row.N _ _ within)
     ])
