@@ -72,6 +72,14 @@ fn answer_text(answer: Read<Value>) -> Bytes<ANSWER_MOST> {
     text
 }
 
+// The position that an answer leaves.
+fn place_behind(answer: Read<Value>) -> usize {
+    match answer {
+        Ok((_, at)) => at,
+        Err(refused) => refused.at,
+    }
+}
+
 // The f32's bits, or the refusal. An F16 that is given is a number.
 #[tactic(auto, using(jxl_half::proofs::Halves::has_number))]
 fn f16_bits(s: &[u8], at: usize) -> Read<u32> {
@@ -226,13 +234,9 @@ impl Buffer {
     pub fn call(&mut self, line: &[u8]) -> Bytes<ANSWER_MOST>
         ensures { held self.new.bytes ≡ held self.old.bytes }
     {
-        let mut lent = LentBuffer {
-            bytes: self.bytes.as_bytes(),
-            at: self.at,
-        };
-        let text = lent.call(line);
-        self.at = lent.at;
-        text
+        let answer = call(self.bytes.as_bytes(), self.at, line);
+        self.at = place_behind(answer);
+        answer_text(answer)
     }
 }
 
@@ -242,10 +246,7 @@ impl LentBuffer<'_> {
         ensures { self.new.bytes.now ≡ self.old.bytes.now }
     {
         let answer = call(self.bytes, self.at, line);
-        self.at = match answer {
-            Ok((_, at)) => at,
-            Err(refused) => refused.at,
-        };
+        self.at = place_behind(answer);
         answer_text(answer)
     }
 }
