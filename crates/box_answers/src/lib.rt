@@ -1,7 +1,7 @@
 // What feeding a file to the parser in packets shows, each behind the bytes that the feeds before left unread, as tokens of the stored lists.
 #![tactic(auto)]
 
-ghost use Rattle.std.specs.Prelude.{◌≡◌, ◌+◌, ◌%◌, ◌^◌, None, true, length};
+ghost use Rattle.std.specs.Prelude.{◌≡◌, ◌+◌, ◌%◌, ◌^◌, ◌≤◌, None, true, length, take};
 ghost use Rattle.jxl_slices.specs.Part.{between};
 ghost use Rattle.replay_text.specs.Held.{held};
 
@@ -11,6 +11,10 @@ use jxl_container::{
 };
 use jxl_slices::part;
 use replay_text::{Bytes, leading_number};
+
+// The bytes that a packet puts, at most: in each of 129 turns a token and three marks, then two marks and the bytes consumed. No token has
+// more than 51.
+pub const PACKET_MOST: usize = 8192;
 
 // A feed: its answer so far, the record, the record's total at the start and the bytes consumed since, counted here, the kind that an event
 // told, and where the last step refused, or answered Closed, that refusal. The answer has N bytes at most: what has no room is left out.
@@ -211,6 +215,43 @@ pub fn whole<const N: usize>(file: &[u8], cuts: &[u8]) -> Feed<N> {
     feed
 }
 
+// Puts what a packet put behind the `at` bytes that stand in `out`, parted by a space, as far as there is room, and answers how many stand
+// there then.
+fn put_packet(out: &mut [u8], at: usize, text: &[u8]) -> usize
+    requires { at ≤ length out.old }
+    ensures within { (at ≤ result) × (result ≤ length out.new) }
+    ensures front { take at out.new ≡ take at out.old }
+{
+    let mut next = at;
+    if 0 < at && at < out.len() {
+        out[at] = b' ';
+        next = at + 1;
+    }
+    let count = text.len().min(out.len() - next);
+    out[next..next + count].copy_from_slice(&text[..count]);
+    next + count
+}
+
+// The same as `whole`, for an answer of any length: it is put into `out`, as far as there is room. Answers the feed, which holds what the
+// last packet put, and how many bytes stand in `out`.
+pub fn whole_into(out: &mut [u8], file: &[u8], cuts: &[u8]) -> (Feed<PACKET_MOST>, usize)
+    ensures { result.1 ≤ length out.new }
+{
+    let mut feed = Feed::new(ContainerParser::new());
+    let mut end = 0usize;
+    let mut at = 0;
+    for cut in cuts.split_inclusive(|b| *b == b',') {
+        end = end.wrapping_add(leading_number(cut, 10).0 as usize);
+        feed.answer.clear();
+        feed.packet(file, end);
+        at = put_packet(out, at, feed.answer.as_bytes());
+        if feed.refusal.is_some() {
+            break;
+        }
+    }
+    (feed, at)
+}
+
 #[cfg(test)]
 mod tests {
     use super::*;
@@ -233,6 +274,12 @@ mod tests {
         let feed = whole::<2048>(b"\xff\x0a", cuts.as_bytes());
         assert_eq!(rt; feed.answer.as_bytes().len(), 16 + 498 * 3);
         assert!(rt; feed.answer.as_bytes().ends_with(b" |2 |2"));
+        let mut out = [0; 2048];
+        let (lent, len) = whole_into(&mut out, b"\xff\x0a", cuts.as_bytes());
+        assert_eq!(rt; &out[..len], feed.answer.as_bytes());
+        assert_eq!(rt; lent.answer.as_bytes(), b"|2".as_slice());
+        let (_, len) = whole_into(&mut out[..4], b"\xff\x0a", b"1,1");
+        assert_eq!(rt; &out[..len], b"|0 K".as_slice());
         let short = whole::<4>(b"\xff\x0a", b"1,1");
         assert_eq!(rt; short.answer.as_bytes(), b"|0 K".as_slice());
         assert_eq!(rt; short.consumed, 2);
