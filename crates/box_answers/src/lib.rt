@@ -285,6 +285,21 @@ mod tests {
         assert_eq!(rt; short.consumed, 2);
     }
 
+    // a box of 2 bytes behind the file type, and a packet behind the one in which it is refused, which is not fed
+    #[test]
+    fn nothing_is_fed_behind_a_refusal(rt: HostRuntime) {
+        let file = b"\0\0\0\x0cJXL \r\n\x87\n\0\0\0\x14ftypjxl \0\0\0\0jxl \0\0\0\x02abcdefgh";
+        let told = b"|0 Kc S66747970,p,b D66747970@20+12 E66747970 |32 R10 |32";
+        let mut out = [0; 100];
+        let (feed, len) = whole_into(&mut out, file, b"5,30,5,4");
+        assert_eq!(rt; &out[..len], told.as_slice());
+        assert!(rt; feed.refusal.is_some());
+        assert_eq!(rt;
+            whole::<100>(file, b"5,30,5,4").answer.as_bytes(),
+            told.as_slice()
+        );
+    }
+
     #[test]
     fn a_turn_shows_the_kind(rt: HostRuntime) {
         let mut feed = Feed::<64>::new(ContainerParser::new());
